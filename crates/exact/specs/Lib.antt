@@ -1,0 +1,3 @@
+pub mod Quat
+pub mod Vector
+pub mod Turn

@@ -1,0 +1,54 @@
+-- The float steps of the arc tangent: a series near 0, and pieces about 1/4, 1/2, 3/4 and 1 that lead back to it; then the octants.
+use mathlib.Core.Bool.{cond}
+use mathlib.Core.List.{List, [], _∷_}
+use lib.Ieee.{Float, binary64, neg, lt, le}
+use Rattle.std.specs.Floats.{sqrt, clamped}
+use Rattle.numeric.specs.Floats.{_⊕_, _⊖_, _⊗_, _⊘_, bits, odd-polynomial}
+
+abbrev pub zero : Float
+zero = bits 0
+
+abbrev pub one : Float
+one = bits 0x3FF0_0000_0000_0000
+
+-- u − u³/3 + … − u¹⁵/15, each 1/n the nearest f64, for a u of at most 1/8 in size
+unfoldable pub atan-kernel : Float → Float
+atan-kernel u =
+    odd-polynomial u (bits 0x3FD5_5555_5555_5555) (
+    bits 0x3FC9_9999_9999_999A ∷ bits 0x3FC2_4924_9249_2492 ∷ bits 0x3FBC_71C7_1C71_C71C
+    ∷ bits 0x3FB7_45D1_745D_1746 ∷ bits 0x3FB3_B13B_13B1_3B14 ∷ bits 0x3FB1_1111_1111_1111 ∷ [])
+
+-- a + arctan ((q − b) / (1 + q b)), where a is the arc tangent of b
+unfoldable pub atan-near : Float → Float → Float → Float
+atan-near q b a = a ⊕ atan-kernel ((q ⊖ b) ⊘ (one ⊕ q ⊗ b))
+
+-- of a q from 0 to 1: below 2^-27 itself, below 1/8 the series, else about the nearest quarter
+unfoldable pub atan-unit : Float → Float
+atan-unit q =
+    cond (lt q (bits 0x3E40_0000_0000_0000)) q
+    (cond (lt q (bits 0x3FC0_0000_0000_0000)) (atan-kernel q)
+    (cond (lt q (bits 0x3FD8_0000_0000_0000)) (atan-near q (bits 0x3FD0_0000_0000_0000) (bits 0x3FCF_5B75_F92C_80DD))
+    (cond (lt q (bits 0x3FE4_0000_0000_0000)) (atan-near q (bits 0x3FE0_0000_0000_0000) (bits 0x3FDD_AC67_0561_BB4F))
+    (cond (lt q (bits 0x3FEC_0000_0000_0000)) (atan-near q (bits 0x3FE8_0000_0000_0000) (bits 0x3FE4_978F_A326_9EE1))
+    (atan-near q one (bits 0x3FE9_21FB_5444_2D18))))))
+
+-- P/2 and P, each the nearest f64
+abbrev pub quarter-turn : Float
+quarter-turn = bits 0x3FF9_21FB_5444_2D18
+
+abbrev pub half-turn : Float
+half-turn = bits 0x4009_21FB_5444_2D18
+
+-- the angle of (x, y), for a y that is not negative; 0 at the origin
+unfoldable pub angle-up : Float → Float → Float
+angle-up y x =
+    cond (lt x zero)
+    (cond (le y (neg x)) (half-turn ⊖ atan-unit (y ⊘ neg x)) (quarter-turn ⊕ atan-unit (neg x ⊘ y)))
+    (cond (le y x) (cond (lt zero x) (atan-unit (y ⊘ x)) zero) (quarter-turn ⊖ atan-unit (x ⊘ y)))
+
+unfoldable pub angle : Float → Float → Float
+angle y x = cond (lt y zero) (neg (angle-up (neg y) x)) (angle-up y x)
+
+-- the arc cosine of f brought into −1..1
+unfoldable pub arc-cosine : Float → Float
+arc-cosine f = let g = clamped f (neg one) one in angle (sqrt binary64 ((one ⊖ g) ⊗ (one ⊕ g))) g

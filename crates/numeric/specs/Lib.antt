@@ -1,0 +1,4 @@
+pub mod Floats
+pub mod Tests
+pub mod Sine
+pub mod ArcTangent

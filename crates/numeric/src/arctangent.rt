@@ -1,0 +1,118 @@
+// The arc tangent of two numbers, the arc cosine by it, and the square root.
+ghost use mathlib.Core.Path.{_≡_};
+ghost use lib.Ieee.{binary64};
+ghost use Rattle.std.specs.Floats as Floats;
+ghost use Rattle.fault.specs.Answers.{answer, _⨾_};
+ghost use Rattle.numeric.specs.Tests.{number-fault};
+ghost use Rattle.numeric.specs.ArcTangent.{atan-kernel, atan-near, atan-unit, angle-up, angle, arc-cosine};
+use crate::tests_of_numbers::check_number;
+use fault::NumberFault;
+
+// P/2 and P, the nearest f64
+const QUARTER_TURN: f64 = 1.5707963267948966;
+
+const HALF_TURN: f64 = 3.141592653589793;
+
+// 2^-27: the cube of what is smaller is lost beside it
+const TINY: f64 = 7.450580596923828e-9;
+
+// The root of any f64, rounded once to the nearest.
+pub fn sqrt(v: f64) -> f64
+    ensures { λ r. ⌜ r ≡ Floats.sqrt binary64 v ⌝ }
+{
+    v.sqrt()
+}
+
+// u − u³/3 + … − u¹⁵/15
+fn atan_kernel(u: f64) -> f64
+    ensures { λ t. ⌜ t ≡ atan-kernel u ⌝ }
+{
+    let z = u * u;
+    u
+        - u
+            * (z
+                * (0.3333333333333333
+                    - z
+                        * (0.2
+                            - z
+                                * (0.14285714285714285
+                                    - z
+                                        * (0.1111111111111111
+                                            - z
+                                                * (0.09090909090909091
+                                                    - z
+                                                        * (0.07692307692307693
+                                                            - z * 0.06666666666666667)))))))
+}
+
+// The arc tangent of a q near b, whose own is a.
+fn atan_near(q: f64, b: f64, a: f64) -> f64
+    ensures { λ t. ⌜ t ≡ atan-near q b a ⌝ }
+{
+    a + atan_kernel((q - b) / (1.0 + q * b))
+}
+
+// The arc tangent of a q from 0 to 1.
+fn atan_unit(q: f64) -> f64
+    ensures { λ t. ⌜ t ≡ atan-unit q ⌝ }
+{
+    if q < TINY {
+        q
+    } else if q < 0.125 {
+        atan_kernel(q)
+    } else if q < 0.375 {
+        atan_near(q, 0.25, 0.24497866312686414)
+    } else if q < 0.625 {
+        atan_near(q, 0.5, 0.4636476090008061)
+    } else if q < 0.875 {
+        atan_near(q, 0.75, 0.6435011087932844)
+    } else {
+        atan_near(q, 1.0, 0.7853981633974483)
+    }
+}
+
+// The angle of the point (x, y), for a y that is not negative; 0 at the origin.
+fn angle_up(y: f64, x: f64) -> f64
+    ensures { λ t. ⌜ t ≡ angle-up y x ⌝ }
+{
+    if x < 0.0 {
+        if y <= -x {
+            HALF_TURN - atan_unit(y / -x)
+        } else {
+            QUARTER_TURN + atan_unit(-x / y)
+        }
+    } else if y <= x {
+        if 0.0 < x { atan_unit(y / x) } else { 0.0 }
+    } else {
+        QUARTER_TURN - atan_unit(x / y)
+    }
+}
+
+// The angle of the point (x, y), with no test of the numbers, for a caller that has tested them.
+fn angle(y: f64, x: f64) -> f64
+    ensures { λ t. ⌜ t ≡ angle y x ⌝ }
+{
+    if y < 0.0 {
+        -angle_up(-y, x)
+    } else {
+        angle_up(y, x)
+    }
+}
+
+// The angle of the point (x, y) in radians, from −P to P; positive zero at the origin.
+pub fn atan2(y: f64, x: f64) -> Result<f64, NumberFault>
+    ensures { λ r. ⌜ r ≡ answer (number-fault 0 y ⨾ number-fault 1 x) (angle y x) ⌝ }
+{
+    check_number(0, y)?;
+    check_number(1, x)?;
+    Ok(angle(y, x))
+}
+
+// The angle in radians whose cosine is f, brought into −1..1 first.
+pub fn acos_approx(f: f64) -> Result<f64, NumberFault>
+    ensures { λ r. ⌜ r ≡ answer (number-fault 0 f) (arc-cosine f) ⌝ }
+{
+    check_number(0, f)?;
+    let g = f.clamp(-1.0, 1.0);
+    Ok(angle(sqrt((1.0 - g) * (1.0 + g)), g))
+}

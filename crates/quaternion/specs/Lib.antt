@@ -1,0 +1,2 @@
+pub mod Quaternions
+pub mod Euler

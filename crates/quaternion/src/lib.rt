@@ -1,0 +1,6 @@
+// Rotations as quaternions of f64, after glam's DQuat.
+mod dquat;
+mod euler_angles;
+
+pub use dquat::DQuat;
+pub use euler_angles::DQuatFromEuler;

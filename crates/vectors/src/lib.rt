@@ -1,0 +1,4 @@
+// Vectors of f64, after glam's DVec3.
+mod dvec3;
+
+pub use dvec3::DVec3;
