@@ -3,7 +3,7 @@ ghost use mathlib.Core.Path.{_≡_};
 ghost use Rattle.std.specs.declared.option.Option.{Option};
 ghost use Rattle.fault.specs.Answers.{answer};
 ghost use Rattle.fault.specs.declared.RotationFault.{RotationFault as Fault};
-ghost use Rattle.euler.specs.Orders.{order, angle-order, index, next, prev, made, Letters-law, Examples};
+ghost use Rattle.euler.specs.Orders.{order, angle-order, made, Letters-law, Examples};
 ghost use Rattle.euler.specs.Names.{name, named, Names-law};
 ghost use Rattle.euler.specs.declared.EulerRot.{EulerRot as Rot};
 use fault::RotationFault;
@@ -219,9 +219,13 @@ impl Order {
     }
 }
 
-// What the definitions say of orders and names, in specs/Orders and specs/Names.
-pub fn orders_stand()
+// Each name's letters are those of its order, and each name names its order (specs/Orders, specs/Names).
+pub fn names_stand()
     ensures letters { λ _. ⌜ Letters-law ⌝ }
     ensures names { λ _. ⌜ Names-law ⌝ }
-    ensures examples { λ _. ⌜ Examples ⌝ }
+{}
+
+// ZYX has the axes (2, 1, 0), ZXZ (2, 0, 1), YZXEx (0, 2, 1).
+pub fn examples_stand()
+    ensures { λ _. ⌜ Examples ⌝ }
 {}

@@ -60,7 +60,7 @@ impl NumberFault {
     pub fn number(self) -> u8
         ensures { λ r. ⌜ r ≡ number (refusal self) ⌝ }
     {
-        self.refusal().number()
+        Refusal::number(self.refusal())
     }
 
     pub fn refusal(self) -> Refusal
@@ -99,8 +99,8 @@ pub enum RotationFault {
 pub impl From<NumberFault> for RotationFault as RotationFromNumber {
     ghost converts = { λ f r. r ≡ OfNumber f };
 
-    fn from(f: NumberFault) -> RotationFault {
-        RotationFault::Number(f)
+    fn from(fault: NumberFault) -> RotationFault {
+        RotationFault::Number(fault)
     }
 }
 

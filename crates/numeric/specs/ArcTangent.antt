@@ -12,7 +12,7 @@ abbrev pub one : Float
 one = bits 0x3FF0_0000_0000_0000
 
 -- u − u³/3 + … − u¹⁵/15, each 1/n the nearest f64, for a u of at most 1/8 in size
-unfoldable pub atan-kernel : Float → Float
+abbrev pub atan-kernel : Float → Float
 atan-kernel u =
     odd-polynomial u (bits 0x3FD5_5555_5555_5555) (
     bits 0x3FC9_9999_9999_999A ∷ bits 0x3FC2_4924_9249_2492 ∷ bits 0x3FBC_71C7_1C71_C71C
@@ -23,7 +23,7 @@ unfoldable pub atan-near : Float → Float → Float → Float
 atan-near q b a = a ⊕ atan-kernel ((q ⊖ b) ⊘ (one ⊕ q ⊗ b))
 
 -- of a q from 0 to 1: below 2^-27 itself, below 1/8 the series, else about the nearest quarter
-unfoldable pub atan-unit : Float → Float
+abbrev pub atan-unit : Float → Float
 atan-unit q =
     cond (lt q (bits 0x3E40_0000_0000_0000)) q
     (cond (lt q (bits 0x3FC0_0000_0000_0000)) (atan-kernel q)
@@ -40,7 +40,7 @@ abbrev pub half-turn : Float
 half-turn = bits 0x4009_21FB_5444_2D18
 
 -- the angle of (x, y), for a y that is not negative; 0 at the origin
-unfoldable pub angle-up : Float → Float → Float
+abbrev pub angle-up : Float → Float → Float
 angle-up y x =
     cond (lt x zero)
     (cond (le y (neg x)) (half-turn ⊖ atan-unit (y ⊘ neg x)) (quarter-turn ⊕ atan-unit (neg x ⊘ y)))
@@ -50,5 +50,5 @@ unfoldable pub angle : Float → Float → Float
 angle y x = cond (lt y zero) (neg (angle-up (neg y) x)) (angle-up y x)
 
 -- the arc cosine of f brought into −1..1
-unfoldable pub arc-cosine : Float → Float
+abbrev pub arc-cosine : Float → Float
 arc-cosine f = let g = clamped f (neg one) one in angle (sqrt binary64 ((one ⊖ g) ⊗ (one ⊕ g))) g

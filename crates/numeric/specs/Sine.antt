@@ -8,13 +8,13 @@ use Rattle.numeric.specs.Floats.{_⊕_, _⊖_, _⊗_, bits, size, horner, odd-
 
 -- ---- the polynomials: r − r³/3! + … − r¹⁵/15! and 1 − r²/2! + … + r¹⁶/16!, each 1/n! the nearest f64
 
-unfoldable pub sin-kernel : Float → Float
+abbrev pub sin-kernel : Float → Float
 sin-kernel r =
     odd-polynomial r (bits 0x3FC5_5555_5555_5555) (
     bits 0x3F81_1111_1111_1111 ∷ bits 0x3F2A_01A0_1A01_A01A ∷ bits 0x3EC7_1DE3_A556_C734
     ∷ bits 0x3E5A_E645_67F5_44E4 ∷ bits 0x3DE6_1246_13A8_6D09 ∷ bits 0x3D6A_E7F3_E733_B81F ∷ [])
 
-unfoldable pub cos-kernel : Float → Float
+abbrev pub cos-kernel : Float → Float
 cos-kernel r =
     horner (r ⊗ r) (bits 0x3FF0_0000_0000_0000) (
     bits 0x3FE0_0000_0000_0000 ∷ bits 0x3FA5_5555_5555_5555 ∷ bits 0x3F56_C16C_16C1_6C17 ∷ bits 0x3EFA_01A0_1A01_A01A
@@ -23,11 +23,11 @@ cos-kernel r =
 -- ---- the quarter turns of an a that is not negative
 
 -- a · 2/P rounded to the nearest, by adding 1/2 and cutting
-unfoldable pub quarter-turns : Float → ℕ
+abbrev pub quarter-turns : Float → ℕ
 quarter-turns a = toUnsigned 32 (a ⊗ bits 0x3FE4_5F30_6DC9_C883 ⊕ bits 0x3FE0_0000_0000_0000)
 
 -- (a − k A) − k B: A has the leading 31 binary digits of P/2, so k A is exact for k below 2²², and B is the rest
-unfoldable pub remainder : Float → ℕ → Float
+abbrev pub remainder : Float → ℕ → Float
 remainder a k = let q = ofInt binary64 (pos k) in a ⊖ q ⊗ bits 0x3FF9_21FB_5440_0000 ⊖ q ⊗ bits 0x3DD0_B461_1A62_6331
 
 -- the sine s and the cosine c after k quarter turns more
@@ -37,7 +37,7 @@ quarter (suc zero) s c = (c, neg s)
 quarter (suc (suc zero)) s c = (neg s, neg c)
 quarter (suc (suc (suc k))) s c = (neg c, s)
 
-unfoldable pub turned : ℕ → Float → Float → Float × Float
+abbrev pub turned : ℕ → Float → Float → Float × Float
 turned k s c = quarter (k % 4) s c
 
 -- ---- sine and cosine
@@ -47,8 +47,8 @@ unfoldable pub upward : Float → Float × Float
 upward a = let k = quarter-turns a in let r = remainder a k in turned k (sin-kernel r) (cos-kernel r)
 
 -- below 2^-27 in size the sine of v is v; else it has the sign of v
-unfoldable pub sine : Float → Float
+abbrev pub sine : Float → Float
 sine v = cond (lt (size v) (bits 0x3E40_0000_0000_0000)) v (cond (lt v (bits 0)) (neg (upward (size v) .0)) (upward (size v) .0))
 
-unfoldable pub cosine : Float → Float
+abbrev pub cosine : Float → Float
 cosine v = upward (size v) .1

@@ -5,7 +5,7 @@ ghost use Rattle.std.specs.Floats as Floats;
 ghost use Rattle.fault.specs.Answers.{answer, _⨾_};
 ghost use Rattle.numeric.specs.Tests.{number-fault};
 ghost use Rattle.numeric.specs.ArcTangent.{atan-kernel, atan-near, atan-unit, angle-up, angle, arc-cosine};
-use crate::tests_of_numbers::check_number;
+use crate::checks::check_number;
 use fault::NumberFault;
 
 // P/2 and P, the nearest f64
@@ -28,21 +28,14 @@ fn atan_kernel(u: f64) -> f64
     ensures { λ t. ⌜ t ≡ atan-kernel u ⌝ }
 {
     let z = u * u;
-    u
-        - u
-            * (z
-                * (0.3333333333333333
-                    - z
-                        * (0.2
-                            - z
-                                * (0.14285714285714285
-                                    - z
-                                        * (0.1111111111111111
-                                            - z
-                                                * (0.09090909090909091
-                                                    - z
-                                                        * (0.07692307692307693
-                                                            - z * 0.06666666666666667)))))))
+    let h = 0.06666666666666667; // 1/15
+    let h = 0.07692307692307693 - z * h; // 1/13
+    let h = 0.09090909090909091 - z * h; // 1/11
+    let h = 0.1111111111111111 - z * h; // 1/9
+    let h = 0.14285714285714285 - z * h; // 1/7
+    let h = 0.2 - z * h; // 1/5
+    let h = 0.3333333333333333 - z * h; // 1/3
+    u - u * (z * h)
 }
 
 // The arc tangent of a q near b, whose own is a.

@@ -3,7 +3,7 @@ ghost use mathlib.Core.Path.{_≡_};
 ghost use Rattle.fault.specs.Answers.{answer};
 ghost use Rattle.numeric.specs.Tests.{angle-fault};
 ghost use Rattle.numeric.specs.Sine.{sin-kernel, cos-kernel, quarter-turns, remainder, turned, upward, sine, cosine};
-use crate::tests_of_numbers::check_angle;
+use crate::checks::check_angle;
 use fault::NumberFault;
 use std::num::saturating_f64_to_u32;
 
@@ -23,21 +23,14 @@ fn sin_kernel(r: f64) -> f64
     ensures { λ s. ⌜ s ≡ sin-kernel r ⌝ }
 {
     let z = r * r;
-    r
-        - r
-            * (z
-                * (0.16666666666666666
-                    - z
-                        * (0.008333333333333333
-                            - z
-                                * (0.0001984126984126984
-                                    - z
-                                        * (2.7557319223985893e-06
-                                            - z
-                                                * (2.505210838544172e-08
-                                                    - z
-                                                        * (1.6059043836821613e-10
-                                                            - z * 7.647163731819816e-13)))))))
+    let h = 7.647163731819816e-13; // 1/15!
+    let h = 1.6059043836821613e-10 - z * h; // 1/13!
+    let h = 2.505210838544172e-08 - z * h; // 1/11!
+    let h = 2.7557319223985893e-06 - z * h; // 1/9!
+    let h = 0.0001984126984126984 - z * h; // 1/7!
+    let h = 0.008333333333333333 - z * h; // 1/5!
+    let h = 0.16666666666666666 - z * h; // 1/3!
+    r - r * (z * h)
 }
 
 // 1 − r²/2! + … + r¹⁶/16!
@@ -45,22 +38,15 @@ fn cos_kernel(r: f64) -> f64
     ensures { λ c. ⌜ c ≡ cos-kernel r ⌝ }
 {
     let z = r * r;
-    1.0
-        - z
-            * (0.5
-                - z
-                    * (0.041666666666666664
-                        - z
-                            * (0.001388888888888889
-                                - z
-                                    * (2.48015873015873e-05
-                                        - z
-                                            * (2.755731922398589e-07
-                                                - z
-                                                    * (2.08767569878681e-09
-                                                        - z
-                                                            * (1.1470745597729725e-11
-                                                                - z * 4.779477332387385e-14)))))))
+    let h = 4.779477332387385e-14; // 1/16!
+    let h = 1.1470745597729725e-11 - z * h; // 1/14!
+    let h = 2.08767569878681e-09 - z * h; // 1/12!
+    let h = 2.755731922398589e-07 - z * h; // 1/10!
+    let h = 2.48015873015873e-05 - z * h; // 1/8!
+    let h = 0.001388888888888889 - z * h; // 1/6!
+    let h = 0.041666666666666664 - z * h; // 1/4!
+    let h = 0.5 - z * h; // 1/2!
+    1.0 - z * h
 }
 
 // The quarter turns of an angle that is not negative: the nearest number of them, or its neighbour.

@@ -3,4 +3,6 @@ mod dquat;
 mod euler_angles;
 
 pub use dquat::DQuat;
+pub use dquat::DQuatDebug;
+pub use dquat::DQuatPartialEq;
 pub use euler_angles::DQuatFromEuler;

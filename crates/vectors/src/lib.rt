@@ -2,3 +2,5 @@
 mod dvec3;
 
 pub use dvec3::DVec3;
+pub use dvec3::DVec3Debug;
+pub use dvec3::DVec3PartialEq;
