@@ -46,9 +46,9 @@ angle-up y x =
     (cond (le y (neg x)) (half-turn ⊖ atan-unit (y ⊘ neg x)) (quarter-turn ⊕ atan-unit (neg x ⊘ y)))
     (cond (le y x) (cond (lt zero x) (atan-unit (y ⊘ x)) zero) (quarter-turn ⊖ atan-unit (x ⊘ y)))
 
-unfoldable pub angle : Float → Float → Float
-angle y x = cond (lt y zero) (neg (angle-up (neg y) x)) (angle-up y x)
+unfoldable pub atan2-float : Float → Float → Float
+atan2-float y x = cond (lt y zero) (neg (angle-up (neg y) x)) (angle-up y x)
 
 -- the arc cosine of f brought into −1..1
-abbrev pub arc-cosine : Float → Float
-arc-cosine f = let g = clamped f (neg one) one in angle (sqrt binary64 ((one ⊖ g) ⊗ (one ⊕ g))) g
+abbrev pub acos-float : Float → Float
+acos-float f = let g = clamped f (neg one) one in atan2-float (sqrt binary64 ((one ⊖ g) ⊗ (one ⊕ g))) g

@@ -2,3 +2,4 @@ pub mod Floats
 pub mod Tests
 pub mod Sine
 pub mod ArcTangent
+pub mod Laws

@@ -47,8 +47,8 @@ unfoldable pub upward : Float → Float × Float
 upward a = let k = quarter-turns a in let r = remainder a k in turned k (sin-kernel r) (cos-kernel r)
 
 -- below 2^-27 in size the sine of v is v; else it has the sign of v
-abbrev pub sine : Float → Float
-sine v = cond (lt (size v) (bits 0x3E40_0000_0000_0000)) v (cond (lt v (bits 0)) (neg (upward (size v) .0)) (upward (size v) .0))
+abbrev pub sin-float : Float → Float
+sin-float v = cond (lt (size v) (bits 0x3E40_0000_0000_0000)) v (cond (lt v (bits 0)) (neg (upward (size v) .0)) (upward (size v) .0))
 
-abbrev pub cosine : Float → Float
-cosine v = upward (size v) .1
+abbrev pub cos-float : Float → Float
+cos-float v = upward (size v) .1

@@ -4,7 +4,7 @@ ghost use lib.Ieee.{binary64};
 ghost use Rattle.std.specs.Floats as Floats;
 ghost use Rattle.fault.specs.Answers.{answer, _⨾_};
 ghost use Rattle.numeric.specs.Tests.{number-fault};
-ghost use Rattle.numeric.specs.ArcTangent.{atan-kernel, atan-near, atan-unit, angle-up, angle, arc-cosine};
+ghost use Rattle.numeric.specs.ArcTangent.{atan-kernel, atan-near, atan-unit, angle-up, atan2-float, acos-float};
 use crate::checks::check_number;
 use fault::NumberFault;
 
@@ -82,8 +82,8 @@ fn angle_up(y: f64, x: f64) -> f64
 }
 
 // The angle of the point (x, y), with no test of the numbers, for a caller that has tested them.
-fn angle(y: f64, x: f64) -> f64
-    ensures { λ t. ⌜ t ≡ angle y x ⌝ }
+fn atan2_raw(y: f64, x: f64) -> f64
+    ensures { λ t. ⌜ t ≡ atan2-float y x ⌝ }
 {
     if y < 0.0 {
         -angle_up(-y, x)
@@ -94,18 +94,18 @@ fn angle(y: f64, x: f64) -> f64
 
 // The angle of the point (x, y) in radians, from −P to P; positive zero at the origin.
 pub fn atan2(y: f64, x: f64) -> Result<f64, NumberFault>
-    ensures { λ r. ⌜ r ≡ answer (number-fault 0 y ⨾ number-fault 1 x) (angle y x) ⌝ }
+    ensures { λ r. ⌜ r ≡ answer (number-fault 0 y ⨾ number-fault 1 x) (atan2-float y x) ⌝ }
 {
     check_number(0, y)?;
     check_number(1, x)?;
-    Ok(angle(y, x))
+    Ok(atan2_raw(y, x))
 }
 
 // The angle in radians whose cosine is f, brought into −1..1 first.
 pub fn acos_approx(f: f64) -> Result<f64, NumberFault>
-    ensures { λ r. ⌜ r ≡ answer (number-fault 0 f) (arc-cosine f) ⌝ }
+    ensures { λ r. ⌜ r ≡ answer (number-fault 0 f) (acos-float f) ⌝ }
 {
     check_number(0, f)?;
     let g = f.clamp(-1.0, 1.0);
-    Ok(angle(sqrt((1.0 - g) * (1.0 + g)), g))
+    Ok(atan2_raw(sqrt((1.0 - g) * (1.0 + g)), g))
 }

@@ -9,7 +9,7 @@ use Rattle.exact.specs.Quat.{Ops, Quat}
 use Rattle.rounding.specs.Value.{floats}
 use Rattle.numeric.specs.Floats.{_⊗_}
 use Rattle.numeric.specs.Tests.{angle-fault}
-use Rattle.numeric.specs.Sine.{sine, cosine}
+use Rattle.numeric.specs.Sine.{sin-float, cos-float}
 use Rattle.euler.specs.Orders.{order, second, other}
 use Rattle.euler.specs.declared.Axis.{Axis}
 use Rattle.euler.specs.declared.Axis.the-variants.{X, Y, Z}
@@ -31,7 +31,7 @@ abbrev pub angle : {A : Type 0} → A × A → Angle A
 angle p = record { s = p .0; c = p .1 }
 
 abbrev pub half-angle : Float → Angle Float
-half-angle t = angle (sine (t ⊗ half), cosine (t ⊗ half))
+half-angle t = angle (sin-float (t ⊗ half), cos-float (t ⊗ half))
 
 abbrev pub put : {A : Type 0} → Axis → A → Quat A → Quat A
 put X a q = record { x = a; y = q .y; z = q .z; w = q .w }

@@ -15,7 +15,7 @@ use Rattle.exact.specs.Vector.{Vec}
 use Rattle.rounding.specs.Value.{floats}
 use Rattle.numeric.specs.Floats.{_⊖_, _⊗_, bits, size}
 use Rattle.numeric.specs.Tests.{angle-fault}
-use Rattle.numeric.specs.Sine.{sine, cosine}
+use Rattle.numeric.specs.Sine.{sin-float, cos-float}
 use Rattle.vectors.specs.Vectors.{finite3}
 use Rattle.quaternion.specs.declared.dquat.DQuat.{DQuat}
 
@@ -50,13 +50,13 @@ abbrev pub turn-fault : Float → Option RotationFault
 turn-fault angle = within Number (angle-fault 0 angle)
 
 abbrev pub about-x : Float → DQuat
-about-x angle = quat (sine (angle ⊗ half)) zero zero (cosine (angle ⊗ half))
+about-x angle = quat (sin-float (angle ⊗ half)) zero zero (cos-float (angle ⊗ half))
 
 abbrev pub about-y : Float → DQuat
-about-y angle = quat zero (sine (angle ⊗ half)) zero (cosine (angle ⊗ half))
+about-y angle = quat zero (sin-float (angle ⊗ half)) zero (cos-float (angle ⊗ half))
 
 abbrev pub about-z : Float → DQuat
-about-z angle = quat zero zero (sine (angle ⊗ half)) (cosine (angle ⊗ half))
+about-z angle = quat zero zero (sin-float (angle ⊗ half)) (cos-float (angle ⊗ half))
 
 -- ---- lengths
 

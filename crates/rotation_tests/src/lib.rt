@@ -51,8 +51,14 @@ mod tests {
         check_eq(number(sin(-1000.0)), 0)?;
         check_eq(number(sin(1000.0000000000001)), 2)?;
         check_eq(number(cos(f64::INFINITY)), 1)?;
-        check_eq(number_of_turn(DQuat::from_euler(EulerRot::ZYX, 2000.0, f64::NAN, 0.0)), 2)?;
-        check_eq(number_of_turn(DQuat::from_euler(EulerRot::ZYX, 0.0, f64::NAN, 2000.0)), 1)
+        check_eq(
+            number_of_turn(DQuat::from_euler(EulerRot::ZYX, 2000.0, f64::NAN, 0.0)),
+            2,
+        )?;
+        check_eq(
+            number_of_turn(DQuat::from_euler(EulerRot::ZYX, 0.0, f64::NAN, 2000.0)),
+            1,
+        )
     }
 
     #[test]
@@ -69,7 +75,10 @@ mod tests {
     #[test]
     fn names_are_spelled_exactly() -> Result<(), Fail> {
         check_eq(EulerRot::from_name("XZXEx"), Ok(EulerRot::XZXEx))?;
-        check_eq(EulerRot::from_name("XZXex"), Err(RotationFault::UnknownOrder(0)))?;
+        check_eq(
+            EulerRot::from_name("XZXex"),
+            Err(RotationFault::UnknownOrder(0)),
+        )?;
         check_eq(EulerRot::from_name(""), Err(RotationFault::UnknownOrder(0)))?;
         check_eq(EulerRot::YZXEx.name(), "YZXEx")?;
         check_eq(Order::from_euler(EulerRot::YZXEx).angle_order(), (0, 2, 1))
@@ -83,6 +92,9 @@ mod tests {
         check_eq(j.mul_quat(i), DQuat::from_xyzw(0.0, 0.0, -1.0, 0.0))?;
         check_eq(i.mul_vec3(DVec3::NEG_Z), Ok(DVec3::Z))?;
         let long = DQuat::from_xyzw(0.0, 0.0, 0.0, 1.1);
-        check_eq(long.mul_vec3(DVec3::NEG_Z), Err(RotationFault::NotNormalized(0)))
+        check_eq(
+            long.mul_vec3(DVec3::NEG_Z),
+            Err(RotationFault::NotNormalized(0)),
+        )
     }
 }

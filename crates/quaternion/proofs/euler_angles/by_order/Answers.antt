@@ -3,7 +3,7 @@ use mathlib.Core.Bool.{Bool, cond}
 use lib.Ieee.{Float, neg}
 use Rattle.rounding.specs.Value.{floats}
 use Rattle.numeric.specs.Floats.{_⊗_}
-use Rattle.numeric.specs.Sine.{sine, cosine}
+use Rattle.numeric.specs.Sine.{sin-float, cos-float}
 use Rattle.quaternion.specs.Quaternions.{half}
 use Rattle.quaternion.specs.Euler.{angle, parity, assembled}
 use Rattle.quaternion.proofs.euler_angles.by_order.Needs as need
@@ -24,7 +24,7 @@ returns c =
       | else-order-2 w ↦ w .middle-is ∙ ap (λ (b : Bool). cond b (neg y) y) (sym (w .if-order-2 .left))
     ] in
     let turn = λ (a b d : Float × Float). assembled floats (parity (o .«parity_even»)) o (angle a) (angle b) (angle d) in
-    let halved : Float → Float × Float = λ t. (sine (t ⊗ half), cosine (t ⊗ half)) in
+    let halved : Float → Float × Float = λ t. (sin-float (t ⊗ half), cos-float (t ⊗ half)) in
     c .from-halves .ensures
     ∙ ap (λ a. turn a (c .sin-cos-raw-2 .result) (c .sin-cos-raw-3 .result)) (c .sin-cos-raw .ensures)
     ∙ ap₂ (turn (halved (c .if-order .first .0))) (c .sin-cos-raw-2 .ensures) (c .sin-cos-raw-3 .ensures)

@@ -1,11 +1,11 @@
 use borrow.Author.Needs.{needs}
-use Rattle.numeric.specs.ArcTangent.{angle}
-use Rattle.numeric.proofs.arctangent.angle.Needs as need
+use Rattle.numeric.specs.ArcTangent.{atan2-float}
+use Rattle.numeric.proofs.arctangent.atan2_raw.Needs as need
 
 pub returns-then-y : need.returns-then-y
-unfolding angle
+unfolding atan2-float
 returns-then-y c = search needs
 
 pub returns-else-y : need.returns-else-y
-unfolding angle
+unfolding atan2-float
 returns-else-y c = search needs

@@ -1,0 +1,17 @@
+pub mod Fractions
+pub mod Signs
+pub mod Units
+pub mod Ticks
+pub mod Digits
+pub mod Inputs
+pub mod Root
+pub mod Values
+pub mod Rounds
+pub mod Compare
+pub mod Operations
+pub mod Exact
+pub mod Convert
+pub mod Literals
+pub mod Approx
+pub mod Analysis
+pub mod Stated
