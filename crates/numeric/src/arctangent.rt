@@ -81,8 +81,8 @@ fn angle_up(y: f64, x: f64) -> f64
     }
 }
 
-// The angle of the point (x, y), with no test of the numbers, for a caller that has tested them.
-fn atan2_raw(y: f64, x: f64) -> f64
+// The angle of the point (x, y) with no test of the numbers, for a caller that has tested them.
+pub fn atan2_raw(y: f64, x: f64) -> f64
     ensures { λ t. ⌜ t ≡ atan2-float y x ⌝ }
 {
     if y < 0.0 {

@@ -5,6 +5,7 @@ mod sine;
 
 pub use arctangent::acos_approx;
 pub use arctangent::atan2;
+pub use arctangent::atan2_raw;
 pub use arctangent::sqrt;
 pub use checks::check_angle;
 pub use checks::check_number;
