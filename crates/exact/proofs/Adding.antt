@@ -5,18 +5,17 @@ use Prim.Native.Nat as N
 use Prim.Native.Nat.{ℕ}
 use lib.Dec.{lit<}
 use lib.IntN.{ℤ, pos, _+ℤ_}
-use Rattle.exact.specs.Fraction as F
-use Rattle.exact.specs.Fraction.{Frac, whole, _over_}
+use Rattle.exact.specs.Fraction.{Frac, whole, _over_, _+ᶠ_, _*ᶠ_}
 use Rattle.exact.specs.Sine.{quarter, turns, sine, cosine}
 use Rattle.exact.proofs.Ring.{con, _⊕_, _⊗_, _⊝_}
-use Rattle.exact.proofs.Rational.{ℚ, cls, _+_, _*_, _-_, whole-+, ∅, _▸_, _≐_, ring}
+use Rattle.exact.proofs.Rational.{ℚ, cls, _+_, _*_, _-_, plus-cls, times-cls, whole-+, ∅, _▸_, _≐_, ring}
 use Rattle.exact.proofs.Order.{_≤_}
 use Rattle.exact.proofs.Within.{0ₑ, 1ₑ, num, 2⁻, num-*, 0≤num, computes, closed, _within_, within-+, within-*, within-≤, within-at, within-self, near}
-use Rattle.exact.proofs.Pairs.{pair, _≋⟨_⟩_, ≋-at, ≋-≤, ≋-trans, ≋-sym, sum, quarters-near, quarters-sum}
+use Rattle.exact.proofs.Pairs.{Pair, pair, _≋⟨_⟩_, ≋-at, ≋-≤, ≋-trans, ≋-sym, sum, quarters-near, quarters-sum}
 use Rattle.exact.proofs.Polys.{Num, Means, ev, bound, ℤ-num, ℤ-means, poly-num, poly-means, Px, leaf, _⊹_, _⊛_, ~_, _at_, flat, mean, flat-over, const-is, line-is}
 use Rattle.exact.proofs.Series.{Sₚ, Cₚ, Sᵥ, Cᵥ, S-is, C-is, value, common, wave}
 use Rattle.exact.proofs.Waves.{eighth}
-use Rattle.exact.proofs.Sines.{left, wave-by, exact, exact-is, exact-far, rest-small}
+use Rattle.exact.proofs.Sines.{left, wave-by, exact, exact-is, exact-far, exact-equal, rest-small}
 
 -- ---- polynomials in two variables: in x, with polynomials in y for coefficients; 5 x and 5 y within 4
 
@@ -47,6 +46,7 @@ S-sum = leaf (in-y (pos κ ∷ [])) ⊛ (in-x (Sₚ 5) at leaf y+x) ⊹ ~ (leaf 
 abbrev C-sum : Px (List ℤ)
 C-sum = leaf (in-y (pos κ ∷ [])) ⊛ (in-x (Cₚ 5) at leaf y+x) ⊹ ~ (leaf (in-x (Cₚ 5)) ⊛ leaf (in-y (Cₚ 5)) ⊹ ~ (leaf (in-x (Sₚ 5)) ⊛ leaf (in-y (Sₚ 5))))
 
+-- the first missing term of S at x + y: (8/5)²³/23! = 2^-58.86; what is missing of C comes to less
 S-sum-small : num (bound two 4 (flat two S-sum)) * cls (pos 1 over κ²) ≤ 2⁻ 58
 unfolding computes Sₚ Cₚ
 S-sum-small = closed tt
@@ -133,10 +133,20 @@ module _ (x y : ℚ) (k l : ℤ) (hx : left x k within cls eighth) (hy : left y 
   by-sum = ≋-at refl (sym (quarters-sum k l (wave (left x k)) (wave (left y l)))) (quarters-near (k +ℤ l) (≋-at (ap wave left-sum) refl (wave-sum (left x k) (left y l) hx hy)))
 
 -- 2⁻⁵⁹ for the number of quarter turns and 2⁻⁵⁸ for the sum
-pub exact-sum : (u v : Frac) → exact (F._+ᶠ_ u v) ≋⟨ 2⁻ 57 ⟩ sum (exact u) (exact v)
+pub exact-sum : (u v : Frac) → exact (u +ᶠ v) ≋⟨ 2⁻ 57 ⟩ sum (exact u) (exact v)
 unfolding computes
-exact-sum u v = ≋-≤ (≋-trans (≋-sym (exact-far (F._+ᶠ_ u v) (turns u +ℤ turns v) (left-sum-small (cls u) (cls v) (turns u) (turns v) (rest-small u) (rest-small v))))
+exact-sum u v = ≋-≤ (≋-trans (≋-sym (exact-far (u +ᶠ v) (turns u +ℤ turns v) (left-sum-small (cls u) (cls v) (turns u) (turns v) (rest-small u) (rest-small v))))
     (≋-at refl (ap₂ sum (sym (exact-is u)) (sym (exact-is v))) (by-sum (cls u) (cls v) (turns u) (turns v) (rest-small u) (rest-small v)))) (closed tt)
 
-pub exact-double : (v : Frac) → exact (F._+ᶠ_ v v) ≋⟨ 2⁻ 57 ⟩ pair (num 2 * (cls (sine v) * cls (cosine v))) (cls (cosine v) * cls (cosine v) - cls (sine v) * cls (sine v))
+-- sin and cos of a doubled angle
+abbrev pub doubled : Frac → Pair
+doubled v = pair (num 2 * (cls (sine v) * cls (cosine v))) (cls (cosine v) * cls (cosine v) - cls (sine v) * cls (sine v))
+
+pub exact-double : (v : Frac) → exact (v +ᶠ v) ≋⟨ 2⁻ 57 ⟩ doubled v
 exact-double v = ≋-at refl (ap (λ s. pair s (cls (cosine v) * cls (cosine v) - cls (sine v) * cls (sine v))) (ring (cls (sine v) ▸ cls (cosine v) ▸ ∅) (λ s c. s ⊗ c ⊕ c ⊗ s ≐ con (whole (pos 2)) ⊗ (s ⊗ c)) tt)) (exact-sum v v)
+
+pub exact-half : (a : Frac) → exact a ≋⟨ 2⁻ 57 ⟩ doubled (a *ᶠ (pos 1 over 2))
+exact-half a = ≋-at (exact-equal (h +ᶠ h) a (plus-cls h h ∙ ap₂ (λ x y. x + y) (times-cls a (pos 1 over 2)) (times-cls a (pos 1 over 2)) ∙ ring (cls a ▸ ∅) (λ a. a ⊗ con (pos 1 over 2) ⊕ a ⊗ con (pos 1 over 2) ≐ a) tt)) refl (exact-double h)
+  where
+    h : Frac
+    h = a *ᶠ (pos 1 over 2)

@@ -1,5 +1,6 @@
 -- From fractions to rational numbers and back: a fraction's class keeps sums, products and the order, by computing.
 use mathlib.Core.Path.{_≡_, sym, ap}
+use mathlib.Core.Quot.{Quot·sound}
 use Rattle.exact.specs.Fraction.{Frac, _≈_}
 use Rattle.exact.specs.Quat.{Quat}
 use Rattle.exact.specs.Distance.{Near, Long, Size, Close, Same}
@@ -44,7 +45,10 @@ pub size-back : (x m : Frac) → cls x within cls m → Size x m
 unfolding computes
 size-back x m h = record { up = to-frac _ _ (h .up); down = to-frac _ _ (h .down) }
 
--- fractions that are one rational number have equal cross products
+-- fractions are one rational number where their cross products are equal
+pub from-≈ : (a b : Frac) → a ≈ b → cls a ≡ cls b
+from-≈ a b h = Quot·sound h
+
 pub same-frac : (a b : Frac) → cls a ≡ cls b → a ≈ b
 same-frac a b e = leZ-antisym _ _ (to-frac a b (≤-of e) .by) (to-frac b a (≤-of (sym e)) .by)
 

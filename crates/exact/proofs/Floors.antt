@@ -6,12 +6,13 @@ use native.Mathlib.Omega.{arith}
 use lib.Signed.{shrZ}
 use lib.IntN.{ℤ, pos, negsuc, negℤ, _+ℤ_, +ℤ-idl, -ℤ-+ℤ-cancel}
 use Rattle.exact.specs.Fraction as F
-use Rattle.exact.specs.Fraction.{Frac, whole, _over_}
+use Rattle.exact.specs.Fraction.{Frac, 1ᶠ, whole, _over_, _-ᶠ_}
 use Rattle.exact.specs.Sine.{floor, nearest}
 use Rattle.exact.proofs.Ring.{con, _⊕_, _⊗_, ⊖_, _⊝_}
 use Rattle.exact.proofs.Rational.{ℚ, cls, _+_, _*_, neg, _-_, plus-cls, neg-cls, whole-+, whole-neg, frac-is, ∅, _▸_, _≐_, ring}
 use Rattle.exact.proofs.Order.{_≤_, _<_, half, number, _⊠_, _≼_, _by_, _⇒_, le}
-use Rattle.exact.proofs.Within.{0#, 1#, 0ₑ, 1ₑ, num, num-*, num-suc, num-≤, over-is, computes, ≤-trans, cancel, <-≤, _within_}
+use Rattle.exact.proofs.Within.{0#, 1#, 0ₑ, 1ₑ, num, num-*, num-suc, num-≤, computes, ≤-trans, cancel, _within_}
+use Rattle.exact.proofs.Numbers.{0<num, over-is}
 
 -- k ≤ x < k + 1
 pub record Floor (x k : ℚ) : Type 0 where
@@ -26,10 +27,6 @@ none h = h .by
 no-less : (x : ℚ) → x + 1# ≤ x → ⊥
 no-less x h = none (le (x ▸ ∅) (λ x. x ⊕ 1ₑ ≼ x ⇒ λ h. 1ₑ ≼ 0ₑ by h) tt h)
 
-0<1 : 0# < 1#
-unfolding computes
-0<1 = record { by = tt }
-
 -- ---- n / b, where k b ≤ n and n + 1 ≤ (k + 1) b
 
 module _ (n k : ℚ) (d : ℕ) (low : k * num (suc d) ≤ n) (high : n + 1# ≤ (k + 1#) * num (suc d)) where
@@ -41,14 +38,14 @@ module _ (n k : ℚ) (d : ℕ) (low : k * num (suc d) ≤ n) (high : n + 1# ≤ 
 
   0<b : 0# < b
   unfolding b
-  0<b = <-≤ 0<1 (num-≤ (omega arith))
+  0<b = 0<num (suc d) (omega arith)
 
   n-is : x * b ≡ n
   unfolding x b
   n-is = ring (n ▸ cls (pos 1 over suc d) ▸ num (suc d) ▸ ∅) (λ n i b. n ⊗ i ⊗ b ≐ b ⊗ i ⊗ n) tt ∙ ap (λ v. v * n) (over-is (suc d) (omega arith)) ∙ ring (n ▸ ∅) (λ n. 1ₑ ⊗ n ≐ n) tt
 
   more : n ≤ n + 1#
-  more = le (n ▸ ∅) (λ n. n ≼ n ⊕ 1ₑ by number (whole (pos 1))) tt
+  more = le (n ▸ ∅) (λ n. n ≼ n ⊕ 1ₑ by number 1ᶠ) tt
 
   quotient-floor : Floor (n * cls (pos 1 over suc d)) k
   unfolding x b
@@ -119,7 +116,7 @@ floor-same x y h = same-floor (floor x +ℤ negℤ (floor y)) (floor x) (floor y
 
 -- ---- the nearest whole number
 
-half-less : (x : Frac) → cls (F._-ᶠ_ (pos 1 over 2) x) ≡ cls half - cls x
+half-less : (x : Frac) → cls ((pos 1 over 2) -ᶠ x) ≡ cls half - cls x
 half-less x = plus-cls (pos 1 over 2) (F.neg x) ∙ ap (λ v. cls half + v) (neg-cls x)
 
 pub nearest-is : (x : Frac) → cls x - cls (whole (nearest x)) within cls half
@@ -130,11 +127,11 @@ nearest-is x = subst (λ v. cls x - v within cls half) (sym (whole-neg k)) (reco
 })
   where
     k : ℤ
-    k = floor (F._-ᶠ_ (pos 1 over 2) x)
+    k = floor ((pos 1 over 2) -ᶠ x)
 
     f : Floor (cls half - cls x) (cls (whole k))
-    f = subst (λ v. Floor v (cls (whole k))) (half-less x) (floor-is (F._-ᶠ_ (pos 1 over 2) x))
+    f = subst (λ v. Floor v (cls (whole k))) (half-less x) (floor-is ((pos 1 over 2) -ᶠ x))
 
 pub nearest-same : (x y : Frac) → cls x ≡ cls y → nearest x ≡ nearest y
 unfolding nearest
-nearest-same x y h = ap negℤ (floor-same (F._-ᶠ_ (pos 1 over 2) x) (F._-ᶠ_ (pos 1 over 2) y) (half-less x ∙ ap (λ v. cls half - v) h ∙ sym (half-less y)))
+nearest-same x y h = ap negℤ (floor-same ((pos 1 over 2) -ᶠ x) ((pos 1 over 2) -ᶠ y) (half-less x ∙ ap (λ v. cls half - v) h ∙ sym (half-less y)))

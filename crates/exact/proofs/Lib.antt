@@ -3,6 +3,7 @@ pub mod Ring
 pub mod Rational
 pub mod Order
 pub mod Within
+pub mod Numbers
 pub mod Quats
 pub mod Distance
 pub mod Vectors

@@ -9,8 +9,7 @@ use Prim.Native.Nat.{ℕ, zero, suc}
 use lib.Dec.{T, T-prop, eqb}
 use lib.Signed.{nonNeg}
 use lib.IntN.{ℤ, pos, negsuc, negℤ, _+ℤ_}
-use Rattle.exact.specs.Fraction as F
-use Rattle.exact.specs.Fraction.{Frac, den, cross, whole}
+use Rattle.exact.specs.Fraction.{Frac, 0ᶠ, 1ᶠ, den, cross, _over_, _≤ᶠ_}
 use Rattle.exact.proofs.Ring.{con, _⊕_, _⊗_, ⊖_, _⊝_, Poly, end, term, norm}
 use Rattle.exact.proofs.Ints.{scaled, nonNeg-+, nonNeg-*, square-zero, cut, leZ-is, neg-*ℤ, isZero}
 use Rattle.exact.proofs.Rational.{ℚ, cls, _+_, _*_, neg, _-_, nonneg, ℚ-set, none-is, ℚ-coef, Ex, Vars, ∅, _▸_, Over, fill, val, value, value-norm, _≐_, ring}
@@ -45,6 +44,16 @@ sign x = go (nonneg x) (ind {β = λ x. T (not (nonneg x)) → T (nonneg (neg x)
     go true f = inl tt
     go false f = inr (f tt)
 
+both-signs : (z : ℤ) → T (nonNeg z) → T (nonNeg (negℤ z)) → T (isZero z)
+both-signs (pos zero) s t = tt
+both-signs (pos (suc n)) s t = absurd t
+both-signs (negsuc n) s t = absurd s
+
+pub no-sign : (x : ℚ) → T (nonneg x) → T (nonneg (neg x)) → x ≡ cls 0ᶠ
+unfolding nonneg neg
+no-sign = ind {β = λ x. T (nonneg x) → T (nonneg (neg x)) → x ≡ cls 0ᶠ} (λ x. Π-prop (λ s. Π-prop (λ t. ℚ-set x (cls 0ᶠ))))
+    (λ a s t. none-is a (both-signs (a .num) s t))
+
 pub only-zero : (x : ℚ) → T (nonneg (neg (x * x))) → T (nonneg (neg x))
 unfolding _*_ nonneg neg
 only-zero = ind {β = λ x. T (nonneg (neg (x * x))) → T (nonneg (neg x))} (λ x. Π-prop (λ t. T-prop (nonneg (neg x)))) (λ a. square-zero (a .num))
@@ -71,16 +80,16 @@ pub record _≤_ (x y : ℚ) : Type 0 where
   pub by : T (nonneg (y - x))
 
 -- it is that of the fractions
-pub from-frac : (a b : Frac) → F._≤ᶠ_ a b → cls a ≤ cls b
+pub from-frac : (a b : Frac) → a ≤ᶠ b → cls a ≤ cls b
 unfolding _+_ neg nonneg
 from-frac a b h = record { by = subst T (leZ-is (cross a b) (cross b a) ∙ ap (λ z. nonNeg (cross b a +ℤ z)) (sym (neg-*ℤ (a .num) (pos (den b))))) (h .by) }
 
-pub to-frac : (a b : Frac) → cls a ≤ cls b → F._≤ᶠ_ a b
+pub to-frac : (a b : Frac) → cls a ≤ cls b → a ≤ᶠ b
 unfolding _+_ neg nonneg
 to-frac a b h = record { by = subst T (sym (leZ-is (cross a b) (cross b a) ∙ ap (λ z. nonNeg (cross b a +ℤ z)) (sym (neg-*ℤ (a .num) (pos (den b)))))) (h .by) }
 
 abbrev pub half : Frac
-half = F._over_ (pos 1) 2
+half = pos 1 over 2
 
 -- ---- inequalities by certificates. `le (x ▸ y ▸ z ▸ ∅) (λ x y z. x ≼ y ⇒ λ h. y ≼ z ⇒ λ k. x ≼ z by h ⊞ k) tt` proves x ≤ y → y ≤ z → x ≤ z:
 -- z − x is what the certificate h ⊞ k adds up to, and a number not below 0. A certificate is made of the assumptions, squares and numbers by sums and products.
@@ -167,7 +176,7 @@ module _ (v : Vars) where
   left-is : (p : Poly Frac) → T (left p) → T (nonneg (value v p))
   unfolding nonneg
   left-is end t = tt
-  left-is (term [] c end) t = rw (ring (cls c ▸ ∅) (λ c. c ⊗ con (whole (pos 1)) ⊕ con (whole (pos 0)) ≐ c) tt) t
+  left-is (term [] c end) t = rw (ring (cls c ▸ ∅) (λ c. c ⊗ con 1ᶠ ⊕ con 0ᶠ ≐ c) tt) t
   left-is (term [] c (term n d p)) t = absurd t
   left-is (term (x ∷ m) c p) t = absurd t
 
@@ -191,7 +200,7 @@ module _ (v : Vars) where
   proved k g h (c ⇒ f) t = λ a. proved (suc k) (assume k (gap c) g) (more k (gap c) g (gap-is c a) h) (f (given k)) t
 
   abbrev pub nothing : ℕ → Ex
-  nothing i = con (whole (pos 0))
+  nothing i = con 0ᶠ
 
   none : Facts nothing
   unfolding nonneg Facts
@@ -199,16 +208,6 @@ module _ (v : Vars) where
 
 pub le : (v : Vars) (f : Over v Goal) → T (proves zero (nothing v) (fill Goal zero v f)) → Means v zero (fill Goal zero v f)
 le v f = proved v zero (nothing v) (none v) (fill Goal zero v f)
-
-both-signs : (z : ℤ) → T (nonNeg z) → T (nonNeg (negℤ z)) → T (isZero z)
-both-signs (pos zero) s t = tt
-both-signs (pos (suc n)) s t = absurd t
-both-signs (negsuc n) s t = absurd s
-
-pub no-sign : (x : ℚ) → T (nonneg x) → T (nonneg (neg x)) → x ≡ cls (whole (pos 0))
-unfolding nonneg neg
-no-sign = ind {β = λ x. T (nonneg x) → T (nonneg (neg x)) → x ≡ cls (whole (pos 0))} (λ x. Π-prop (λ s. Π-prop (λ t. ℚ-set x (cls (whole (pos 0))))))
-    (λ a s t. none-is a (both-signs (a .num) s t))
 
 -- where `le v f tt` is refused, `f′ : leftover v f ≡ end`, `f′ = refl` is refused with the polynomial that the certificate leaves
 abbrev residue : ℕ → (ℕ → Ex) → Goal → Poly Frac

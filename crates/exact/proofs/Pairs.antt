@@ -18,8 +18,8 @@ pub record Pair : Type 0 where
 abbrev pub pair : ℚ → ℚ → Pair
 pair s c = record { s = s; c = c }
 
-abbrev pub square : Pair → ℚ
-square w = w .s * w .s + w .c * w .c
+abbrev pub radius² : Pair → ℚ
+radius² w = w .s * w .s + w .c * w .c
 
 -- ---- pairs near each other
 
@@ -91,13 +91,13 @@ pub quarters-near : (k : ℤ) {v w : Pair} {e : ℚ} → v ≋⟨ e ⟩ w → qu
 unfolding quarters
 quarters-near k h = turned-near (mod4 k) h
 
-turned-square : (n : ℕ) (w : Pair) → square (turned n w) ≡ square w
+turned-square : (n : ℕ) (w : Pair) → radius² (turned n w) ≡ radius² w
 turned-square zero w = refl
 turned-square (suc zero) w = ring (w .s ▸ w .c ▸ ∅) (λ s c. c ⊗ c ⊕ ⊖ s ⊗ ⊖ s ≐ s ⊗ s ⊕ c ⊗ c) tt
 turned-square (suc (suc zero)) w = ring (w .s ▸ w .c ▸ ∅) (λ s c. ⊖ s ⊗ ⊖ s ⊕ ⊖ c ⊗ ⊖ c ≐ s ⊗ s ⊕ c ⊗ c) tt
 turned-square (suc (suc (suc n))) w = ring (w .s ▸ w .c ▸ ∅) (λ s c. ⊖ c ⊗ ⊖ c ⊕ s ⊗ s ≐ s ⊗ s ⊕ c ⊗ c) tt
 
-pub quarters-square : (k : ℤ) (w : Pair) → square (quarters k w) ≡ square w
+pub quarters-square : (k : ℤ) (w : Pair) → radius² (quarters k w) ≡ radius² w
 unfolding quarters
 quarters-square k w = turned-square (mod4 k) w
 

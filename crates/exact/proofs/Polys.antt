@@ -9,7 +9,8 @@ use Rattle.exact.specs.Fraction.{whole, _over_}
 use Rattle.exact.proofs.Ring.{_⊕_, _⊗_, ⊖_}
 use Rattle.exact.proofs.Rational.{ℚ, cls, _+_, _*_, neg, whole-+, whole-*, whole-neg, ∅, _▸_, _≐_, ring}
 use Rattle.exact.proofs.Order.{_≤_}
-use Rattle.exact.proofs.Within.{0#, 0ₑ, num, num-+, num-*, ≤-refl, _within_, abs-is, within-+, within-*, within-self, within-at, divide}
+use Rattle.exact.proofs.Within.{0#, 0ₑ, num, num-+, num-*, ≤-refl, _within_, within-+, within-*, within-self, within-at}
+use Rattle.exact.proofs.Numbers.{abs-is, divide}
 
 -- ---- coefficients: operations that compute, with a bound
 

@@ -9,7 +9,7 @@ use Rattle.exact.specs.Quat.{Ops, Quat, product, conjugate, image, square, plu
 use Rattle.exact.proofs.Ring.{con, _⊕_, _⊗_, ⊖_, _⊝_}
 use Rattle.exact.proofs.Rational.{ℚ, _+_, _*_, neg, _-_, Ex, Vars, ∅, _▸_, _▹_, Over, fill, val, _≐_, true-of, solved, ring}
 use Rattle.exact.proofs.Order.{_≤_, Cert, squared, number, _⊞_, _⊠_, _≼_, _by_, _⇒_, le, and-l, and-r}
-use Rattle.exact.proofs.Within.{0#, num, ≤-trans, ≤-*, 0≤+, 0≤*, root, _≈⟨_⟩_}
+use Rattle.exact.proofs.Within.{0#, 1#, 0ₑ, 1ₑ, num, ≤-trans, ≤-*, 0≤+, 0≤*, root, _≈⟨_⟩_}
 
 -- the operations of numbers, and those of polynomials
 abbrev pub ops : Ops ℚ
@@ -141,6 +141,13 @@ upto-≤ h k = record { nonneg = ≤-trans (h .nonneg) k; most = ≤-trans (h .m
 
 pub ~-at : {p q : Quat ℚ} {e f : ℚ} → e ≡ f → p ~⟨ e ⟩ q → p ~⟨ f ⟩ q
 ~-at {p} {q} s h = subst (λ z. p ~⟨ z ⟩ q) s h
+
+-- |q|² ≤ 1 + e ≤ (1 + e)²
+pub upto-one : (q : Quat ℚ) {e : ℚ} → square ops q ≈⟨ e ⟩ 1# → 0# ≤ e → q upto 1# + e
+upto-one q {e} h k = record {
+  nonneg = le (e ▸ ∅) (λ e. 0ₑ ≼ e ⇒ λ k. 0ₑ ≼ 1ₑ ⊕ e by k) tt k;
+  most = le (q ▹ e ▸ ∅) (λ q e. square exs q ≼ 1ₑ ⊕ e ⇒ λ h. 0ₑ ≼ e ⇒ λ k. square exs q ≼ (1ₑ ⊕ e) ⊗ (1ₑ ⊕ e) by h ⊞ k ⊞ squared e) tt (h .up) k;
+}
 
 pub ~-same : {p p′ q q′ : Quat ℚ} {e : ℚ} → p ≡ p′ → q ≡ q′ → p ~⟨ e ⟩ q → p′ ~⟨ e ⟩ q′
 ~-same {p} {q′ = q′} {e} s t h = subst (λ z. z ~⟨ e ⟩ q′) s (subst (λ z. p ~⟨ e ⟩ z) t h)

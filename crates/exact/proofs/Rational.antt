@@ -11,7 +11,7 @@ use lib.Signed.{nonNeg}
 use lib.IntN.{ℤ, pos, negsuc, negℤ, _+ℤ_, _*ℤ_, +ℤ-comm, *ℤ-comm}
 use native.Mathlib.Nat.{mul-comm}
 use Rattle.exact.specs.Fraction as F
-use Rattle.exact.specs.Fraction.{Frac, den, cross, whole, _≈_}
+use Rattle.exact.specs.Fraction.{Frac, 0ᶠ, 1ᶠ, den, cross, whole, _≈_, _over_, _+ᶠ_, _-ᶠ_, _*ᶠ_, inverse}
 use Rattle.exact.specs.Quat.{Quat}
 use Rattle.exact.proofs.Ring.{Ring, Coef, Into, Expr, var, con, _⊕_, _⊗_, ⊖_, ⟦_⟧, Poly, poly, norm, norm-is, empty, solve}
 use Rattle.exact.proofs.Ints.{ℤ-solve, scaled, isZero, isZero-is, neg-*ℤ}
@@ -25,7 +25,7 @@ D x = pos (den x)
 den-is : (a b : ℕ) → suc (N._-_ (N._*_ (suc a) (suc b)) 1) ≡ N._*_ (suc a) (suc b)
 den-is a b = omega arith
 
-D-is : (x y : Frac) → D (F._*ᶠ_ x y) ≡ D x *ℤ D y
+D-is : (x y : Frac) → D (x *ᶠ y) ≡ D x *ℤ D y
 D-is x y = ap pos (den-is (x .low) (y .low))
 
 module _ (a b p q r : ℤ) where
@@ -81,20 +81,20 @@ cls x = Quot·mk x
 abbrev lift₂ : {B : Type 0} → IsSet B → (f : Frac → Frac → B) → ((x x′ y : Frac) → x ≈ x′ → f x y ≡ f x′ y) → ((x y y′ : Frac) → y ≈ y′ → f x y ≡ f x y′) → ℚ → ℚ → B
 lift₂ set f l r p q = Quot·lift set (λ x. Quot·lift set (f x) (r x) q) (λ x x′ h. ind {β = λ q. Quot·lift set (f x) (r x) q ≡ Quot·lift set (f x′) (r x′) q} (λ q. set _ _) (λ y. l x x′ y h) q) p
 
-swap-over : {m n : ℤ} {k l : ℕ} → m ≡ n → k ≡ l → cls (F._over_ m k) ≡ cls (F._over_ n l)
-swap-over p q = ap₂ (λ (n : ℤ) (d : ℕ). cls (F._over_ n d)) p q
+swap-over : {m n : ℤ} {k l : ℕ} → m ≡ n → k ≡ l → cls (m over k) ≡ cls (n over l)
+swap-over p q = ap₂ (λ (n : ℤ) (d : ℕ). cls (n over d)) p q
 
-pub plus-comm : (x y : Frac) → cls (F._+ᶠ_ x y) ≡ cls (F._+ᶠ_ y x)
+pub plus-comm : (x y : Frac) → cls (x +ᶠ y) ≡ cls (y +ᶠ x)
 plus-comm x y = swap-over (+ℤ-comm (cross x y) (cross y x)) (mul-comm (den x) (den y))
 
-pub times-comm : (x y : Frac) → cls (F._*ᶠ_ x y) ≡ cls (F._*ᶠ_ y x)
+pub times-comm : (x y : Frac) → cls (x *ᶠ y) ≡ cls (y *ᶠ x)
 times-comm x y = swap-over (*ℤ-comm (x .num) (y .num)) (mul-comm (den x) (den y))
 
-pub plus-left : (x x′ y : Frac) → x ≈ x′ → cls (F._+ᶠ_ x y) ≡ cls (F._+ᶠ_ x′ y)
-plus-left x x′ y h = Quot·sound (plus-ok (x .num) (x′ .num) (D x) (D x′) (D y) (y .num) (D (F._+ᶠ_ x y)) (D (F._+ᶠ_ x′ y)) (D-is x y) (D-is x′ y) h)
+pub plus-left : (x x′ y : Frac) → x ≈ x′ → cls (x +ᶠ y) ≡ cls (x′ +ᶠ y)
+plus-left x x′ y h = Quot·sound (plus-ok (x .num) (x′ .num) (D x) (D x′) (D y) (y .num) (D (x +ᶠ y)) (D (x′ +ᶠ y)) (D-is x y) (D-is x′ y) h)
 
-pub times-left : (x x′ y : Frac) → x ≈ x′ → cls (F._*ᶠ_ x y) ≡ cls (F._*ᶠ_ x′ y)
-times-left x x′ y h = Quot·sound (times-ok (x .num) (x′ .num) (D x) (D x′) (D y) (y .num) (D (F._*ᶠ_ x y)) (D (F._*ᶠ_ x′ y)) (D-is x y) (D-is x′ y) h)
+pub times-left : (x x′ y : Frac) → x ≈ x′ → cls (x *ᶠ y) ≡ cls (x′ *ᶠ y)
+times-left x x′ y h = Quot·sound (times-ok (x .num) (x′ .num) (D x) (D x′) (D y) (y .num) (D (x *ᶠ y)) (D (x′ *ᶠ y)) (D-is x y) (D-is x′ y) h)
 
 pub neg-at : (x y : Frac) → x ≈ y → cls (F.neg x) ≡ cls (F.neg y)
 neg-at x y h = Quot·sound (neg-*ℤ (x .num) (D y) ∙ ap negℤ h ∙ sym (neg-*ℤ (y .num) (D x)))
@@ -105,10 +105,10 @@ sign-at x y h = sym (scaled (x .num) (y .low)) ∙ ap nonNeg h ∙ scaled (y .nu
 infixl 60 _+_ _-_
 infixl 70 _*_
 unfoldable pub _+_ : ℚ → ℚ → ℚ
-_+_ = lift₂ ℚ-set (λ x y. cls (F._+ᶠ_ x y)) plus-left (λ x y y′ h. plus-comm x y ∙ plus-left y y′ x h ∙ plus-comm y′ x)
+_+_ = lift₂ ℚ-set (λ x y. cls (x +ᶠ y)) plus-left (λ x y y′ h. plus-comm x y ∙ plus-left y y′ x h ∙ plus-comm y′ x)
 
 unfoldable pub _*_ : ℚ → ℚ → ℚ
-_*_ = lift₂ ℚ-set (λ x y. cls (F._*ᶠ_ x y)) times-left (λ x y y′ h. times-comm x y ∙ times-left y y′ x h ∙ times-comm y′ x)
+_*_ = lift₂ ℚ-set (λ x y. cls (x *ᶠ y)) times-left (λ x y y′ h. times-comm x y ∙ times-left y y′ x h ∙ times-comm y′ x)
 
 unfoldable pub neg : ℚ → ℚ
 neg = Quot·lift ℚ-set (λ x. cls (F.neg x)) neg-at
@@ -130,17 +130,17 @@ module _ (f g : ℚ → ℚ → ℚ → ℚ) where
 pub +-assoc : (x y z : ℚ) → x + y + z ≡ x + (y + z)
 unfolding _+_
 +-assoc = at-all (λ x y z. x + y + z) (λ x y z. x + (y + z)) λ a b c. Quot·sound
-    (plus-assoc (a .num) (b .num) (D a) (D b) (D c) (c .num) _ _ _ _ (D-is a b) (D-is b c) (D-is (F._+ᶠ_ a b) c) (D-is a (F._+ᶠ_ b c)))
+    (plus-assoc (a .num) (b .num) (D a) (D b) (D c) (c .num) _ _ _ _ (D-is a b) (D-is b c) (D-is (a +ᶠ b) c) (D-is a (b +ᶠ c)))
 
 pub *-assoc : (x y z : ℚ) → x * y * z ≡ x * (y * z)
 unfolding _*_
 *-assoc = at-all (λ x y z. x * y * z) (λ x y z. x * (y * z)) λ a b c. Quot·sound
-    (times-assoc (a .num) (b .num) (D a) (D b) (D c) (c .num) _ _ _ _ (D-is a b) (D-is b c) (D-is (F._*ᶠ_ a b) c) (D-is a (F._*ᶠ_ b c)))
+    (times-assoc (a .num) (b .num) (D a) (D b) (D c) (c .num) _ _ _ _ (D-is a b) (D-is b c) (D-is (a *ᶠ b) c) (D-is a (b *ᶠ c)))
 
 pub *-+ : (x y z : ℚ) → (x + y) * z ≡ x * z + y * z
 unfolding _+_ _*_
 *-+ = at-all (λ x y z. (x + y) * z) (λ x y z. x * z + y * z) λ a b c. Quot·sound
-    (distribute (a .num) (b .num) (D a) (D b) (D c) (c .num) _ _ _ _ _ (D-is a b) (D-is a c) (D-is b c) (D-is (F._+ᶠ_ a b) c) (D-is (F._*ᶠ_ a c) (F._*ᶠ_ b c)))
+    (distribute (a .num) (b .num) (D a) (D b) (D c) (c .num) _ _ _ _ _ (D-is a b) (D-is a c) (D-is b c) (D-is (a +ᶠ b) c) (D-is (a *ᶠ c) (b *ᶠ c)))
 
 pub +-comm : (x y : ℚ) → x + y ≡ y + x
 unfolding _+_
@@ -150,22 +150,22 @@ pub *-comm : (x y : ℚ) → x * y ≡ y * x
 unfolding _*_
 *-comm x y = at-all (λ x y z. x * y) (λ x y z. y * x) (λ a b c. times-comm a b) x y x
 
-pub +-zero : (x : ℚ) → cls (whole (pos 0)) + x ≡ x
+pub +-zero : (x : ℚ) → cls 0ᶠ + x ≡ x
 unfolding _+_
-+-zero x = at-all (λ x y z. cls (whole (pos 0)) + x) (λ x y z. x) (λ a b c. Quot·sound (zero-ok (a .num) (D a) _ (D-is (whole (pos 0)) a))) x x x
++-zero x = at-all (λ x y z. cls 0ᶠ + x) (λ x y z. x) (λ a b c. Quot·sound (zero-ok (a .num) (D a) _ (D-is 0ᶠ a))) x x x
 
-pub *-one : (x : ℚ) → cls (whole (pos 1)) * x ≡ x
+pub *-one : (x : ℚ) → cls 1ᶠ * x ≡ x
 unfolding _*_
-*-one x = at-all (λ x y z. cls (whole (pos 1)) * x) (λ x y z. x) (λ a b c. Quot·sound (one-ok (a .num) (D a) _ (D-is (whole (pos 1)) a))) x x x
+*-one x = at-all (λ x y z. cls 1ᶠ * x) (λ x y z. x) (λ a b c. Quot·sound (one-ok (a .num) (D a) _ (D-is 1ᶠ a))) x x x
 
-pub +-neg : (x : ℚ) → x - x ≡ cls (whole (pos 0))
+pub +-neg : (x : ℚ) → x - x ≡ cls 0ᶠ
 unfolding _+_ neg
-+-neg x = at-all (λ x y z. x - x) (λ x y z. cls (whole (pos 0))) (λ a b c. Quot·sound (neg-ok (a .num) (D a) (D (F._-ᶠ_ a a)))) x x x
++-neg x = at-all (λ x y z. x - x) (λ x y z. cls 0ᶠ) (λ a b c. Quot·sound (neg-ok (a .num) (D a) (D (a -ᶠ a)))) x x x
 
 abbrev pub ℚ-ring : Ring ℚ
 ℚ-ring = record {
-  0# = cls (whole (pos 0));
-  1# = cls (whole (pos 1));
+  0# = cls 0ᶠ;
+  1# = cls 1ᶠ;
   _+_ = _+_;
   _*_ = _*_;
   neg = neg;
@@ -181,16 +181,16 @@ abbrev pub ℚ-ring : Ring ℚ
 
 -- coefficients are fractions, which compute
 abbrev pub ℚ-coef : Coef Frac
-ℚ-coef = record { unit = whole (pos 1); plus = F._+ᶠ_; times = F._*ᶠ_; minus = F.neg; none = λ c. isZero (c .num) }
+ℚ-coef = record { unit = 1ᶠ; plus = _+ᶠ_; times = _*ᶠ_; minus = F.neg; none = λ c. isZero (c .num) }
 
-pub none-is : (c : Frac) → T (isZero (c .num)) → cls c ≡ cls (whole (pos 0))
+pub none-is : (c : Frac) → T (isZero (c .num)) → cls c ≡ cls 0ᶠ
 none-is c t = Quot·sound (ap (λ z. z *ℤ pos 1) (isZero-is (c .num) t) ∙ ℤ-solve (D c ∷ []) (con (pos 0) ⊗ con (pos 1)) (con (pos 0) ⊗ var 0) tt)
 
-pub plus-cls : (c d : Frac) → cls (F._+ᶠ_ c d) ≡ cls c + cls d
+pub plus-cls : (c d : Frac) → cls (c +ᶠ d) ≡ cls c + cls d
 unfolding _+_
 plus-cls c d = refl
 
-pub times-cls : (c d : Frac) → cls (F._*ᶠ_ c d) ≡ cls c * cls d
+pub times-cls : (c d : Frac) → cls (c *ᶠ d) ≡ cls c * cls d
 unfolding _*_
 times-cls c d = refl
 
@@ -220,17 +220,17 @@ turn n l = ap pos (at n l)
     at : (n l : ℕ) → N._*_ (N._*_ (suc n) (suc l)) 1 ≡ N._*_ 1 (suc (N._-_ (N._*_ (suc l) (suc n)) 1))
     at n l = omega arith
 
-pub inverse-is : (x : Frac) → T (not (isZero (x .num))) → cls x * cls (F.inverse x) ≡ cls (whole (pos 1))
+pub inverse-is : (x : Frac) → T (not (isZero (x .num))) → cls x * cls (inverse x) ≡ cls 1ᶠ
 unfolding _*_
 inverse-is x t = go (x .num) (x .low) t
   where
-    go : (n : ℤ) (l : ℕ) → T (not (isZero n)) → cls (record { num = n; low = l }) * cls (F.inverse (record { num = n; low = l })) ≡ cls (whole (pos 1))
+    go : (n : ℤ) (l : ℕ) → T (not (isZero n)) → cls (record { num = n; low = l }) * cls (inverse (record { num = n; low = l })) ≡ cls 1ᶠ
     go (pos zero) l t = absurd t
     go (pos (suc n)) l t = Quot·sound (turn n l)
     go (negsuc n) l t = Quot·sound (turn n l)
 
 -- a fraction is its numerator times one over its denominator
-pub frac-is : (x : Frac) → cls x ≡ cls (whole (x .num)) * cls (F._over_ (pos 1) (den x))
+pub frac-is : (x : Frac) → cls x ≡ cls (whole (x .num)) * cls ((pos 1) over (den x))
 unfolding _*_
 frac-is x = Quot·sound (ap (λ (n : ℕ). x .num *ℤ pos n) (same (x .low)) ∙ ℤ-solve (x .num ∷ D x ∷ []) (var 0 ⊗ var 1) (var 0 ⊗ con (pos 1) ⊗ var 1) tt)
   where
@@ -249,7 +249,7 @@ pub data Vars : Type 0 where
   _▹_ : Quat ℚ → Vars → Vars
 
 abbrev pub env : Vars → ℕ → ℚ
-env ∅ i = cls (whole (pos 0))
+env ∅ i = cls 0ᶠ
 env (x ▸ v) zero = x
 env (x ▸ v) (suc i) = env v i
 env (q ▹ v) zero = q .x

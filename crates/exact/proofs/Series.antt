@@ -9,12 +9,13 @@ use native.Mathlib.Nat.{mul-pos, pow-zero, pow-succ'}
 use lib.Dec.{T, eqb, eqb→eq}
 use lib.IntN.{ℤ, pos}
 use Rattle.exact.specs.Fraction as F
-use Rattle.exact.specs.Fraction.{Frac, whole, _over_}
+use Rattle.exact.specs.Fraction.{Frac, whole, _over_, _*ᶠ_}
 use Rattle.exact.specs.Sine.{power, factorial, alternating, odds, evens, S, C}
 use Rattle.exact.proofs.Ring.{_⊗_, ⊖_, _⊝_}
 use Rattle.exact.proofs.Rational.{ℚ, cls, _+_, _*_, neg, _-_, plus-cls, times-cls, neg-cls, ∅, _▸_, _≐_, ring}
 use Rattle.exact.proofs.Order.{and-l, and-r}
-use Rattle.exact.proofs.Within.{0#, 1#, 0ₑ, 1ₑ, num, num-*, over-is}
+use Rattle.exact.proofs.Within.{0#, 1#, 0ₑ, 1ₑ, num, num-*}
+use Rattle.exact.proofs.Numbers.{over-is}
 use Rattle.exact.proofs.Pairs.{Pair, pair, mirror}
 use Rattle.exact.proofs.Polys.{ev, add, opposite, ℤ-num, ℤ-means, add-is, opposite-is, const-is, shift-is}
 
@@ -36,13 +37,13 @@ pow-cls x (suc n) = times-cls x (power x n) ∙ ap (λ v. cls x * v) (pow-cls x 
 pub alt-cls : (x : Frac) (ns : List ℕ) → cls (alternating x ns) ≡ alt (cls x) ns
 unfolding alt alternating
 alt-cls x [] = refl
-alt-cls x (n ∷ ns) = plus-cls (F._*ᶠ_ (power x n) (pos 1 over factorial n)) (F.neg (alternating x ns))
+alt-cls x (n ∷ ns) = plus-cls (power x n *ᶠ (pos 1 over factorial n)) (F.neg (alternating x ns))
     ∙ ap₂ (λ u v. u + v) (times-cls (power x n) (pos 1 over factorial n) ∙ ap (λ v. v * cls (pos 1 over factorial n)) (pow-cls x n)) (neg-cls (alternating x ns) ∙ ap neg (alt-cls x ns))
 
 pow-* : (a x : ℚ) (n : ℕ) → pow (a * x) n ≡ pow a n * pow x n
 unfolding pow
 pow-* a x zero = ring ∅ (1ₑ ≐ 1ₑ ⊗ 1ₑ) tt
-pow-* a x (suc n) = ap (λ v. a * x * v) (pow-* a x n) ∙ ring (a ▸ x ▸ pow a n ▸ pow x n ▸ ∅) (λ a x p p′. a ⊗ x ⊗ (p ⊗ p′) ≐ a ⊗ p ⊗ (x ⊗ p′)) tt
+pow-* a x (suc n) = ap (λ v. a * x * v) (pow-* a x n) ∙ ring (a ▸ x ▸ pow a n ▸ pow x n ▸ ∅) (λ a x p q. a ⊗ x ⊗ (p ⊗ q) ≐ a ⊗ p ⊗ (x ⊗ q)) tt
 
 factorial-pos : (n : ℕ) → N._<_ 0 (factorial n)
 factorial-pos zero = omega arith
@@ -81,7 +82,7 @@ unfolding alt ev
 series-is κ d [] x t = ring (num κ ▸ ∅) (λ κ. 0ₑ ≐ κ ⊗ 0ₑ) tt
 series-is κ d (n ∷ ns) x t = add-is ℤ-num ℤ-means (mono n (pos q)) (opposite ℤ-num (series κ d ns)) (num d * x)
     ∙ ap₂ (λ u v. u + v) first (opposite-is ℤ-num ℤ-means (series κ d ns) (num d * x) ∙ ap neg (series-is κ d ns x (and-r (eqb (N._*_ q (lot d n)) κ) _ t)))
-    ∙ ring (num κ ▸ pow x n ▸ cls (pos 1 over factorial n) ▸ alt x ns ▸ ∅) (λ κ p i a. κ ⊗ (p ⊗ i) ⊝ (κ ⊗ a) ≐ κ ⊗ (p ⊗ i ⊝ a)) tt
+    ∙ ring (num κ ▸ pow x n ▸ cls (pos 1 over factorial n) ▸ alt x ns ▸ ∅) (λ κ p i a. κ ⊗ (p ⊗ i) ⊝ κ ⊗ a ≐ κ ⊗ (p ⊗ i ⊝ a)) tt
   where
     q : ℕ
     q = N._/_ κ (lot d n)
@@ -139,11 +140,6 @@ evenb zero = true
 evenb (suc zero) = false
 evenb (suc (suc n)) = evenb n
 
-oddb : ℕ → Bool
-oddb zero = false
-oddb (suc zero) = true
-oddb (suc (suc n)) = oddb n
-
 all : (ℕ → Bool) → List ℕ → Bool
 all f [] = true
 all f (n ∷ ns) = f n && all f ns
@@ -155,29 +151,28 @@ module _ (x : ℚ) where
   even-pow (suc zero) t = absurd t
   even-pow (suc (suc n)) t = ap (λ v. neg x * (neg x * v)) (even-pow n t) ∙ ring (x ▸ pow x n ▸ ∅) (λ x p. ⊖ x ⊗ (⊖ x ⊗ p) ≐ x ⊗ (x ⊗ p)) tt
 
-  odd-pow : (n : ℕ) → T (oddb n) → pow (neg x) n ≡ neg (pow x n)
-  unfolding oddb pow
+  odd-pow : (n : ℕ) → T (evenb (suc n)) → pow (neg x) n ≡ neg (pow x n)
+  unfolding evenb pow
   odd-pow zero t = absurd t
-  odd-pow (suc zero) t = ring (x ▸ ∅) (λ x. ⊖ x ⊗ 1ₑ ≐ ⊖ (x ⊗ 1ₑ)) tt
-  odd-pow (suc (suc n)) t = ap (λ v. neg x * (neg x * v)) (odd-pow n t) ∙ ring (x ▸ pow x n ▸ ∅) (λ x p. ⊖ x ⊗ (⊖ x ⊗ ⊖ p) ≐ ⊖ (x ⊗ (x ⊗ p))) tt
+  odd-pow (suc n) t = ap (λ v. neg x * v) (even-pow n t) ∙ ring (x ▸ pow x n ▸ ∅) (λ x p. ⊖ x ⊗ p ≐ ⊖ (x ⊗ p)) tt
 
   alt-even : (ns : List ℕ) → T (all evenb ns) → alt (neg x) ns ≡ alt x ns
   unfolding alt all
   alt-even [] t = refl
   alt-even (n ∷ ns) t = ap₂ (λ u v. u * cls (pos 1 over factorial n) - v) (even-pow n (and-l (evenb n) _ t)) (alt-even ns (and-r (evenb n) _ t))
 
-  alt-odd : (ns : List ℕ) → T (all oddb ns) → alt (neg x) ns ≡ neg (alt x ns)
+  alt-odd : (ns : List ℕ) → T (all (λ n. evenb (suc n)) ns) → alt (neg x) ns ≡ neg (alt x ns)
   unfolding alt all
   alt-odd [] t = ring ∅ (0ₑ ≐ ⊖ 0ₑ) tt
-  alt-odd (n ∷ ns) t = ap₂ (λ u v. u * cls (pos 1 over factorial n) - v) (odd-pow n (and-l (oddb n) _ t)) (alt-odd ns (and-r (oddb n) _ t))
-      ∙ ring (pow x n ▸ cls (pos 1 over factorial n) ▸ alt x ns ▸ ∅) (λ p i a. ⊖ p ⊗ i ⊝ (⊖ a) ≐ ⊖ (p ⊗ i ⊝ a)) tt
+  alt-odd (n ∷ ns) t = ap₂ (λ u v. u * cls (pos 1 over factorial n) - v) (odd-pow n (and-l (evenb (suc n)) _ t)) (alt-odd ns (and-r (evenb (suc n)) _ t))
+      ∙ ring (pow x n ▸ cls (pos 1 over factorial n) ▸ alt x ns ▸ ∅) (λ p i a. ⊖ p ⊗ i ⊝ ⊖ a ≐ ⊖ (p ⊗ i ⊝ a)) tt
 
   pub C-even : Cᵥ (neg x) ≡ Cᵥ x
   unfolding evenb all
   C-even = alt-even evens tt
 
   pub S-odd : Sᵥ (neg x) ≡ neg (Sᵥ x)
-  unfolding oddb all
+  unfolding evenb all
   S-odd = alt-odd odds tt
 
 -- ---- the two as a pair

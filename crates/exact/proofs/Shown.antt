@@ -1,26 +1,25 @@
 -- The statements of specs/Facts.antt, from what is proved over rational numbers.
 use mathlib.Core.Path.{_≡_, refl, sym, ap}
 use mathlib.Core.List.{[], _∷_}
-use mathlib.Core.Quot.{Quot·sound}
 use lib.IntN.{pos}
 use Rattle.exact.specs.Fraction.{Frac, _over_}
 use Rattle.exact.specs.Quat.{fractions, product}
 use Rattle.exact.specs.Distance.{Close}
 use Rattle.exact.specs.Sine.{sine, cosine, turns, alternating, nearest, floor}
-use Rattle.exact.specs.Facts.{Lengths-multiply, Products-associate, Totals-split, Triangle, Triangle3, Times-right, Times-left, Image-is-product, Images-near, Circle, Sine-circle, Sizes, Axis-turn-length, Exact-turn-length, Nearest-turns, Any-turns, Any-turns-wide, Odd-even, Equal-sines, Adding, Doubling, Steady, Sine-steady, Quaternion-examples, Sine-examples}
+use Rattle.exact.specs.Turn.{exact-turn}
+use Rattle.exact.specs.Facts.{Lengths-multiply, Products-associate, Totals-split, Triangle, Triangle3, Times-right, Times-left, Image-is-product, Images-near, Circle, Sine-circle, Sizes, Axis-turn-length, Exact-turn-length, Exact-turn-long, Nearest-turns, Any-turns, Any-turns-wide, Odd-even, Equal-sines, Adding, Doubling, Halving, Steady, Sine-steady, Quaternion-examples, Sine-examples}
 use Rattle.exact.proofs.Rational.{ℚ, cls, _-_}
 use Rattle.exact.proofs.Order.{_≤_, from-frac}
 use Rattle.exact.proofs.Within.{1#, computes, closed, ≤-refl, within-≤, within-at, _≈⟨_⟩_, near, near-≤}
-use Rattle.exact.proofs.Quats.{square-product, product-assoc, ~-trans, ~-right, ~-left, image-near, ~-same}
-use Rattle.exact.proofs.Distance.{classes, long, back, size, size-back, close-back, same-frac, same-quat}
+use Rattle.exact.proofs.Quats.{square-product, product-assoc, ~-trans, ~-right, ~-left, image-near, ~-same, upto-one, upto-≤}
+use Rattle.exact.proofs.Distance.{classes, long, long-back, back, size, size-back, close-back, from-≈, same-frac, same-quat}
 use Rattle.exact.proofs.Distance.{near as near-of}
 use Rattle.exact.proofs.Vectors.{classes3, rotated-is}
-use Rattle.exact.proofs.Pairs.{pair, _≋⟨_⟩_, ≋-at}
-use Rattle.exact.proofs.Pairs.{square as square-of}
+use Rattle.exact.proofs.Pairs.{pair, radius², _≋⟨_⟩_, ≋-at}
 use Rattle.exact.proofs.Series.{wave-cls}
 use Rattle.exact.proofs.Waves.{circle, wave-steady}
 use Rattle.exact.proofs.Sines.{exact, rest-cls, rest-small, turns-bound, by-cls, exact-any, exact-far, exact-circle, sine-size, cosine-size, exact-steady, exact-mirror, exact-equal}
-use Rattle.exact.proofs.Adding.{exact-sum, exact-double}
+use Rattle.exact.proofs.Adding.{exact-sum, exact-double, exact-half}
 use Rattle.exact.proofs.Turns.{about-length, exact-turn-length}
 
 -- ---- quaternions and vectors
@@ -72,7 +71,7 @@ both h k = (at-most (h .of-s) k, at-most (h .of-c) k)
 
 pub circle-stands : Circle
 unfolding computes
-circle-stands r h = at-most (near (circle (cls r) (size h)) (ap (λ w. square-of w - 1#) (sym (wave-cls r)))) (closed tt)
+circle-stands r h = at-most (near (circle (cls r) (size h)) (ap (λ w. radius² w - 1#) (sym (wave-cls r)))) (closed tt)
 
 pub sine-circle : Sine-circle
 unfolding computes
@@ -89,6 +88,10 @@ axis-turn-length axis a = at-most (about-length axis a) (closed tt)
 pub letters-turn-length : Exact-turn-length
 unfolding computes
 letters-turn-length l a b c = at-most (exact-turn-length l a b c) (closed tt)
+
+pub exact-turn-long : Exact-turn-long
+unfolding computes
+exact-turn-long l a b c = long-back _ _ (upto-≤ (upto-one (classes (exact-turn l a b c)) (exact-turn-length l a b c) (closed tt)) (closed tt))
 
 -- ---- quarter turns
 
@@ -114,7 +117,7 @@ pub equal-sines : Equal-sines
 equal-sines v w h = (same-frac (sine v) (sine w) (ap (λ p. p .s) same), same-frac (cosine v) (cosine w) (ap (λ p. p .c) same))
   where
     same : exact v ≡ exact w
-    same = exact-equal v w (Quot·sound h)
+    same = exact-equal v w (from-≈ v w h)
 
 pub adding : Adding
 unfolding computes
@@ -123,6 +126,10 @@ adding u v = both (exact-sum u v) (closed tt)
 pub doubling : Doubling
 unfolding computes
 doubling v = both (exact-double v) (closed tt)
+
+pub halving : Halving
+unfolding computes
+halving a = both (exact-half a) (closed tt)
 
 pub steady : Steady
 unfolding computes

@@ -6,13 +6,13 @@ use native.Mathlib.Omega.{arith}
 use lib.Dec.{leb→le}
 use lib.IntN.{ℤ, pos, negsuc, negℤ, sucℤ, _+ℤ_, +ℤ-one, +ℤ-idl, sucℤ-+ℤ, +ℤ-comm, -ℤ-+ℤ-cancel, natAbs}
 use Rattle.exact.specs.Fraction as F
-use Rattle.exact.specs.Fraction.{Frac, whole, _over_, inverse}
+use Rattle.exact.specs.Fraction.{Frac, whole, _over_, inverse, _*ᶠ_}
 use Rattle.exact.specs.Sine.{quarter, mod4, turns, rest, pick, sine-by, cosine-by, sine, cosine, S, C}
 use Rattle.exact.proofs.Ring.{con, _⊕_, _⊗_, ⊖_, _⊝_}
 use Rattle.exact.proofs.Rational.{ℚ, cls, _+_, _*_, neg, _-_, plus-cls, times-cls, neg-cls, whole-+, whole-neg, ∅, _▸_, _≐_, ring}
 use Rattle.exact.proofs.Order.{_≤_, half, _⊞_, _≼_, _by_, _⇒_, le, to-frac}
 use Rattle.exact.proofs.Within.{0#, 1#, 0ₑ, 1ₑ, num, 2⁻, num-≤, 0≤part, computes, closed, ≤-trans, _within_, within-+, within-*, within-≤, within-neg, within-at, within-self}
-use Rattle.exact.proofs.Pairs.{Pair, pair, square, _≋⟨_⟩_, ≋-at, ≋-trans, ≋-sym, ≋-self, ahead, mirror, turned, quarters, quarters-near, quarters-square, quarters-suc, quarters-mirror}
+use Rattle.exact.proofs.Pairs.{Pair, pair, radius², _≋⟨_⟩_, ≋-at, ≋-trans, ≋-sym, ≋-self, ahead, mirror, turned, quarters, quarters-near, quarters-square, quarters-suc, quarters-mirror}
 use Rattle.exact.proofs.Series.{wave, wave-cls, wave-mirror}
 use Rattle.exact.proofs.Waves.{circle, size, just-over, swap, wave-steady, eighth, Phase, narrow, wide}
 use Rattle.exact.proofs.Floors.{nearest-is, nearest-same}
@@ -29,7 +29,7 @@ abbrev pub exact : Frac → Pair
 exact v = pair (cls (sine v)) (cls (cosine v))
 
 pub rest-cls : (v : Frac) (k : ℤ) → cls (rest v k) ≡ left (cls v) k
-rest-cls v k = plus-cls v (F.neg (F._*ᶠ_ (whole k) quarter)) ∙ ap (λ u. cls v + u) (neg-cls (F._*ᶠ_ (whole k) quarter) ∙ ap neg (times-cls (whole k) quarter))
+rest-cls v k = plus-cls v (F.neg ((whole k) *ᶠ quarter)) ∙ ap (λ u. cls v + u) (neg-cls ((whole k) *ᶠ quarter) ∙ ap neg (times-cls (whole k) quarter))
 
 turned-cls : (n : ℕ) (a b : Frac) → pair (cls (pick n a b (F.neg a) (F.neg b))) (cls (pick n b (F.neg a) (F.neg b) a)) ≡ turned n (pair (cls a) (cls b))
 unfolding neg
@@ -59,7 +59,7 @@ unfolding computes
 pub rest-small : (v : Frac) → left (cls v) (turns v) within cls eighth
 rest-small v = subst (λ z. left (cls v) (turns v) within z) (ring ∅ (con quarter ⊗ con half ≐ con eighth) tt)
     (within-at (ap (λ u. cls quarter * (u - cls (whole (turns v)))) (times-cls v (inverse quarter)) ∙ ring (cls v ▸ cls (whole (turns v)) ▸ ∅) (λ v k. con quarter ⊗ (v ⊗ con (inverse quarter) ⊝ k) ≐ v ⊝ k ⊗ con quarter) tt)
-    (within-* (within-self 0≤quarter) (nearest-is (F._*ᶠ_ v (inverse quarter)))))
+    (within-* (within-self 0≤quarter) (nearest-is (v *ᶠ (inverse quarter)))))
 
 eighth-one : cls eighth ≤ 1#
 unfolding computes
@@ -164,12 +164,12 @@ module _ (v : Frac) (j : ℤ) where
 -- ---- equal fractions have equal sines
 
 pub exact-equal : (v w : Frac) → cls v ≡ cls w → exact v ≡ exact w
-exact-equal v w h = exact-is v ∙ ap₂ wave-by h (nearest-same (F._*ᶠ_ v (inverse quarter)) (F._*ᶠ_ w (inverse quarter)) (times-cls v (inverse quarter) ∙ ap (λ x. x * cls (inverse quarter)) h ∙ sym (times-cls w (inverse quarter)))) ∙ sym (exact-is w)
+exact-equal v w h = exact-is v ∙ ap₂ wave-by h (nearest-same (v *ᶠ (inverse quarter)) (w *ᶠ (inverse quarter)) (times-cls v (inverse quarter) ∙ ap (λ x. x * cls (inverse quarter)) h ∙ sym (times-cls w (inverse quarter)))) ∙ sym (exact-is w)
 
 -- ---- the circle and the sizes
 
-pub exact-circle : (v : Frac) → square (exact v) - 1# within 2⁻ 73
-exact-circle v = within-at (ap (λ z. z - 1#) (sym (ap square (exact-is v) ∙ quarters-square (turns v) (wave (left (cls v) (turns v)))))) (circle (left (cls v) (turns v)) (rest-one v))
+pub exact-circle : (v : Frac) → radius² (exact v) - 1# within 2⁻ 73
+exact-circle v = within-at (ap (λ z. z - 1#) (sym (ap radius² (exact-is v) ∙ quarters-square (turns v) (wave (left (cls v) (turns v)))))) (circle (left (cls v) (turns v)) (rest-one v))
 
 pub sine-size : (v : Frac) → cls (sine v) within just-over
 sine-size v = size (cls (sine v)) (cls (cosine v)) (exact-circle v)

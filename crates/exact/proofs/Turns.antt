@@ -3,11 +3,11 @@ use mathlib.Core.Path.{_≡_, refl, sym, _∙_, ap, ap₂, subst}
 use mathlib.Core.Quot.{Quot·sound}
 use mathlib.Core.Bool.{Bool, true, false}
 use lib.IntN.{pos}
-use Rattle.exact.specs.Fraction.{Frac, whole, _over_, _*ᶠ_}
+use Rattle.exact.specs.Fraction.{Frac, 0ᶠ, 1ᶠ, _over_, _*ᶠ_}
 use Rattle.exact.specs.Quat.{Quat, product, square}
 use Rattle.exact.specs.Sine.{P, sine, cosine, alternating, nearest, floor}
 use Rattle.exact.specs.Turn.{Axis, X, Y, Z, Letters, along, about, ordered, exact-turn}
-use Rattle.exact.specs.Facts.{quat, No-turn, Half-turns}
+use Rattle.exact.specs.Facts.{one, No-turn, Half-turns}
 use Rattle.exact.proofs.Ring.{_⊕_, _⊗_}
 use Rattle.exact.proofs.Rational.{ℚ, cls, _+_, _*_, _-_, ∅, _▸_, _≐_, ring}
 use Rattle.exact.proofs.Within.{0#, 1#, 0ₑ, 2⁻, computes, closed, _within_, within-self, _≈⟨_⟩_, near, near-≤, near-*}
@@ -17,7 +17,7 @@ use Rattle.exact.proofs.Sines.{exact-circle}
 
 -- ---- lengths
 
-pub along-cls : (axis : Axis) (s c : Frac) → classes (along (whole (pos 0)) axis s c) ≡ along 0# axis (cls s) (cls c)
+pub along-cls : (axis : Axis) (s c : Frac) → classes (along 0ᶠ axis s c) ≡ along 0# axis (cls s) (cls c)
 along-cls X s c = refl
 along-cls Y s c = refl
 along-cls Z s c = refl
@@ -37,10 +37,10 @@ about-length axis a = near (exact-circle h) (sym (ap (λ q. square ops q - 1#) (
 three-length : (p q r : Quat ℚ) → square ops p ≈⟨ 2⁻ 73 ⟩ 1# → square ops q ≈⟨ 2⁻ 73 ⟩ 1# → square ops r ≈⟨ 2⁻ 73 ⟩ 1# → square ops (product ops (product ops p q) r) ≈⟨ 2⁻ 71 ⟩ 1#
 unfolding computes
 three-length p q r h k l = subst (λ z. z ≈⟨ 2⁻ 71 ⟩ 1#) (sym (square-product (product ops p q) r ∙ ap (λ z. z * square ops r) (square-product p q)))
-    (near-≤ (near-* (near-* h k one one) l one one) (closed tt))
+    (near-≤ (near-* (near-* h k unit unit) l unit unit) (closed tt))
   where
-    one : 1# within 1#
-    one = within-self (closed tt)
+    unit : 1# within 1#
+    unit = within-self (closed tt)
 
 ordered-length : (ex : Bool) (p q r : Quat Frac) → square ops (classes p) ≈⟨ 2⁻ 73 ⟩ 1# → square ops (classes q) ≈⟨ 2⁻ 73 ⟩ 1# → square ops (classes r) ≈⟨ 2⁻ 73 ⟩ 1#
     → square ops (classes (ordered ex p q r)) ≈⟨ 2⁻ 71 ⟩ 1#
@@ -55,7 +55,7 @@ exact-turn-length l a b c = ordered-length (l .ex) (about (l .first) a) (about (
 
 -- the turn by an angle of which half's sine and cosine are known
 module _ (a s c : Frac) (hs : cls (sine (a *ᶠ (pos 1 over 2))) ≡ cls s) (hc : cls (cosine (a *ᶠ (pos 1 over 2))) ≡ cls c) where
-  about-is : (axis : Axis) → classes (about axis a) ≡ classes (along (whole (pos 0)) axis s c)
+  about-is : (axis : Axis) → classes (about axis a) ≡ classes (along 0ᶠ axis s c)
   about-is axis = along-cls axis _ _ ∙ ap₂ (along 0# axis) hs hc ∙ sym (along-cls axis s c)
 
 ordered-at : (ex : Bool) {p q r p′ q′ r′ : Quat Frac} → classes p ≡ classes p′ → classes q ≡ classes q′ → classes r ≡ classes r′ → classes (ordered ex p q r) ≡ classes (ordered ex p′ q′ r′)
@@ -63,18 +63,15 @@ unfolding computes
 ordered-at false {r = r} {p′} {q′} h k l = ap₂ (λ a b. product ops (product ops a b) (classes r)) h k ∙ ap (product ops (product ops (classes p′) (classes q′))) l
 ordered-at true {p} {q′ = q′} {r′} h k l = ap₂ (λ a b. product ops (product ops a b) (classes p)) l k ∙ ap (product ops (product ops (classes r′) (classes q′))) h
 
-at-0 : (axis : Axis) → classes (about axis (whole (pos 0))) ≡ classes (along (whole (pos 0)) axis (whole (pos 0)) (whole (pos 1)))
+at-0 : (axis : Axis) → classes (about axis 0ᶠ) ≡ classes (along 0ᶠ axis 0ᶠ 1ᶠ)
 unfolding sine cosine alternating nearest floor
-at-0 = about-is (whole (pos 0)) (whole (pos 0)) (whole (pos 1)) (Quot·sound refl) (Quot·sound refl)
+at-0 = about-is 0ᶠ 0ᶠ 1ᶠ (Quot·sound refl) (Quot·sound refl)
 
-at-P : (axis : Axis) → classes (about axis P) ≡ classes (along (whole (pos 0)) axis (whole (pos 1)) (whole (pos 0)))
+at-P : (axis : Axis) → classes (about axis P) ≡ classes (along 0ᶠ axis 1ᶠ 0ᶠ)
 unfolding sine cosine alternating nearest floor
-at-P = about-is P (whole (pos 1)) (whole (pos 0)) (Quot·sound refl) (Quot·sound refl)
+at-P = about-is P 1ᶠ 0ᶠ (Quot·sound refl) (Quot·sound refl)
 
-abbrev one : Quat Frac
-one = quat (pos 0) (pos 0) (pos 0) (pos 1)
-
-no-turn-about : (axis : Axis) → classes (about axis (whole (pos 0))) ≡ classes one
+no-turn-about : (axis : Axis) → classes (about axis 0ᶠ) ≡ classes one
 no-turn-about X = at-0 X
 no-turn-about Y = at-0 Y
 no-turn-about Z = at-0 Z
@@ -84,7 +81,7 @@ ones false = refl
 ones true = refl
 
 pub no-turn : No-turn
-no-turn l = same-quat (exact-turn l (whole (pos 0)) (whole (pos 0)) (whole (pos 0))) one
+no-turn l = same-quat (exact-turn l 0ᶠ 0ᶠ 0ᶠ) one
     (ordered-at (l .ex) (no-turn-about (l .first)) (no-turn-about (l .second)) (no-turn-about (l .third)) ∙ ones (l .ex))
 
 pub half-turns : Half-turns

@@ -11,8 +11,9 @@ use Rattle.exact.specs.Sine.{P, quarter}
 use Rattle.exact.proofs.Ring.{con, _⊕_, _⊗_, ⊖_, _⊝_}
 use Rattle.exact.proofs.Rational.{ℚ, cls, _+_, _*_, neg, _-_, nonneg, ∅, _▸_, _≐_, ring}
 use Rattle.exact.proofs.Order.{_≤_, half, squared, number, _⊞_, _⊠_, _≼_, _by_, _⇒_, le, sign}
-use Rattle.exact.proofs.Within.{0#, 1#, 0ₑ, 1ₑ, num, 2⁻, num-*, 0≤num, computes, closed, root, _within_, within-+, within-*, within-≤, within-neg, within-at, within-self, within-nonneg, divide, _≈⟨_⟩_, near, near-at, near-sym}
-use Rattle.exact.proofs.Pairs.{_≋⟨_⟩_, square, ahead}
+use Rattle.exact.proofs.Within.{0#, 1#, 0ₑ, 1ₑ, num, 2⁻, num-*, 0≤num, computes, closed, root, _within_, within-+, within-*, within-≤, within-neg, within-at, within-self, within-nonneg, _≈⟨_⟩_, near, near-at, near-sym}
+use Rattle.exact.proofs.Numbers.{divide}
+use Rattle.exact.proofs.Pairs.{_≋⟨_⟩_, radius², ahead}
 use Rattle.exact.proofs.Polys.{derivative, bound, bend, ℤ-num, ℤ-means, Px, leaf, _⊹_, _⊛_, ~_, _at_, flat, mean, flat-bound, flat-over, const-is, line-is, tangent, bend-is, turn-off}
 use Rattle.exact.proofs.Series.{pow, Sₚ, Cₚ, Sᵥ, Cᵥ, S-is, C-is, S₁-is, C₁-is, S-odd, C-even, value, common, wave}
 
@@ -28,15 +29,16 @@ abbrev κ² : ℕ
 abbrev circle-poly : Px ℤ
 circle-poly = leaf (Sₚ 1) ⊛ leaf (Sₚ 1) ⊹ leaf (Cₚ 1) ⊛ leaf (Cₚ 1) ⊹ ~ leaf (pos κ² ∷ [])
 
-circle-is : (x : ℚ) → mean ℤ-num ℤ-means x circle-poly ≡ num κ² * (square (wave x) - 1#)
+circle-is : (x : ℚ) → mean ℤ-num ℤ-means x circle-poly ≡ num κ² * (radius² (wave x) - 1#)
 circle-is x = rw (S₁-is x, C₁-is x, const-is ℤ-num ℤ-means (pos κ²) x, num-* κ κ)
     (ring (num κ ▸ Sᵥ x ▸ Cᵥ x ▸ ∅) (λ κ s c. κ ⊗ s ⊗ (κ ⊗ s) ⊕ κ ⊗ c ⊗ (κ ⊗ c) ⊝ κ ⊗ κ ≐ κ ⊗ κ ⊗ (s ⊗ s ⊕ c ⊗ c ⊝ 1ₑ)) tt)
 
+-- the terms up to r²³ cancel; r²⁴ has 2^-73.5, and all that are left together 2^-73.3
 circle-small : num (bound ℤ-num 1 (flat ℤ-num circle-poly)) * cls (pos 1 over κ²) ≤ 2⁻ 73
 unfolding computes Sₚ Cₚ
 circle-small = closed tt
 
-pub circle : (x : ℚ) → x within 1# → square (wave x) - 1# within 2⁻ 73
+pub circle : (x : ℚ) → x within 1# → radius² (wave x) - 1# within 2⁻ 73
 circle x h = flat-over ℤ-num ℤ-means x circle-poly κ² (lit< tt) h (circle-is x) circle-small
 
 -- ---- |S|, |C| ≤ 1 + 2⁻⁷³
@@ -154,7 +156,7 @@ C-slope : (x : ℚ) → x within 1# → value (derivative ℤ-num (Cₚ 1)) x wi
 C-slope x h = within-at (ring (value (derivative ℤ-num (Cₚ 1)) x ▸ value (Sₚ 1) x ▸ ∅) (λ d s. d ⊕ s ⊝ s ≐ d) tt)
     (within-+ (flat-bound ℤ-num ℤ-means x C-slope-off h) (within-neg (within-at (sym (S₁-is x)) (times-κ (S-size x h)))))
 
--- ---- S and C change by at most (1 + 2⁻⁶⁸) w
+-- ---- S and C change by at most (1 + 2⁻⁶⁸) w: 1/22! = 2^-69.9 for S′ − C, 0 for C′ + S, 2⁻⁷³ for the sizes, 2^-89 for the bend
 
 -- the bend's part after 90 halvings
 abbrev last-bend : List ℤ → ℚ
@@ -225,7 +227,7 @@ module _ (f : Frac) (m : ℕ) (fits : num δ * cls f ≡ num m) (e : ℚ) (small
       beyond : cls eighth - (x - cls eighth) ≡ neg (x - cls quarter)
       beyond = ring (x ▸ ∅) (λ x. con eighth ⊝ (x ⊝ con eighth) ≐ ⊖ (x ⊝ con quarter)) tt
 
--- within 1/4 of P/4 the error is at most 2⁻⁷³, within 4/5 at most 2⁻⁵⁹
+-- the first missing term of S, (P/4 + 1/4)²³/23! = 2^-73.3 within 1/4 of P/4, and (P/4 + 4/5)²³/23! = 2^-59.2 within 4/5
 narrow-small : num (bound ℤ-num (N._/_ δ 4) (flat ℤ-num phase-poly)) * cls (pos 1 over κδ) ≤ 2⁻ 73
 unfolding computes Sₚ Cₚ
 narrow-small = closed tt

@@ -1,33 +1,32 @@
 -- Error analysis: `x within m` says |x| ≤ m, and `x ≈⟨ e ⟩ X` that x is within e of X. Sums and products of such, and closed bounds by computing.
 use mathlib.Core.Path.{_≡_, refl, sym, _∙_, ap, subst}
-use mathlib.Core.Quot.{Quot·sound}
 use mathlib.Core.Bool.{Bool, true, false, not, _&&_}
 use native.Mathlib.Omega.{arith}
 use native.Mathlib.Numerals.{add-one}
 use Prim.Native.Nat as N
 use Prim.Native.Nat.{ℕ, zero, suc}
 use mathlib.Core.Logic.{_⊎_, inl, inr}
-use lib.Dec.{T, leb→le}
-use lib.IntN.{ℤ, pos, negsuc, natAbs}
+use lib.Dec.{T, leb→le, le→leb}
+use lib.IntN.{ℤ, pos, negsuc}
 use lib.Signed.{nonNeg}
-use Rattle.exact.specs.Fraction.{Frac, whole, part, _over_, inverse}
+use Rattle.exact.specs.Fraction.{Frac, 0ᶠ, 1ᶠ, whole, part, _over_, inverse}
 use Rattle.exact.proofs.Ring.{con, _⊕_, _⊗_, ⊖_, _⊝_}
 use Rattle.exact.proofs.Ints.{isZero}
-use Rattle.exact.proofs.Rational.{ℚ, cls, whole-+, whole-*, whole-neg, inverse-is, _+_, _*_, neg, _-_, nonneg, Ex, ∅, _▸_, _≐_, ring}
-use Rattle.exact.proofs.Order.{_≤_, half, squared, number, _⊞_, _⊠_, _≼_, _by_, _⇒_, _<_, le, sign, only-zero, cut-ℚ, no-sign, to-frac}
+use Rattle.exact.proofs.Rational.{ℚ, cls, whole-+, whole-*, inverse-is, _+_, _*_, neg, _-_, nonneg, Ex, ∅, _▸_, _≐_, ring}
+use Rattle.exact.proofs.Order.{_≤_, half, squared, number, _⊞_, _⊠_, _≼_, _by_, _⇒_, _<_, le, sign, only-zero, cut-ℚ, no-sign, from-frac, to-frac}
 
 -- 0, 1 and 2⁻ᵏ, as numbers and in certificates
 abbrev pub 0# : ℚ
-0# = cls (whole (pos 0))
+0# = cls 0ᶠ
 
 abbrev pub 0ₑ : Ex
-0ₑ = con (whole (pos 0))
+0ₑ = con 0ᶠ
 
 abbrev pub 1# : ℚ
-1# = cls (whole (pos 1))
+1# = cls 1ᶠ
 
 abbrev pub 1ₑ : Ex
-1ₑ = con (whole (pos 1))
+1ₑ = con 1ᶠ
 
 abbrev pub num : ℕ → ℚ
 num n = cls (whole (pos n))
@@ -67,7 +66,7 @@ pub 0≤part : (k : ℕ) → 0# ≤ 2⁻ k
 -- ---- order
 
 pub ≤-refl : (x : ℚ) → x ≤ x
-≤-refl x = le (x ▸ ∅) (λ x. x ≼ x by number (whole (pos 0))) tt
+≤-refl x = le (x ▸ ∅) (λ x. x ≼ x by number 0ᶠ) tt
 
 pub ≤-trans : {x y z : ℚ} → x ≤ y → y ≤ z → x ≤ z
 ≤-trans {x} {y} {z} = le (x ▸ y ▸ z ▸ ∅) (λ x y z. x ≼ y ⇒ λ h. y ≼ z ⇒ λ k. x ≼ z by h ⊞ k) tt
@@ -82,7 +81,7 @@ pub ≤-* : {x y u v : ℚ} → 0# ≤ x → x ≤ y → 0# ≤ u → u ≤ v �
 ≤-* {x} {y} {u} {v} = le (x ▸ y ▸ u ▸ v ▸ ∅) (λ x y u v. 0ₑ ≼ x ⇒ λ hx. x ≼ y ⇒ λ h. 0ₑ ≼ u ⇒ λ hu. u ≼ v ⇒ λ k. x ⊗ u ≼ y ⊗ v by h ⊠ (hu ⊞ k) ⊞ hx ⊠ k) tt
 
 pub num-≤ : {a b : ℕ} → N._≤_ a b → num a ≤ num b
-num-≤ {a} {b} h = subst (λ v. num a ≤ v) (sym (num-+ a (N._-_ b a)) ∙ ap (λ (k : ℕ). num k) (omega arith)) (le (num a ▸ num (N._-_ b a) ▸ ∅) (λ a d. 0ₑ ≼ d ⇒ λ h. a ≼ a ⊕ d by h) tt (0≤num (N._-_ b a)))
+num-≤ {a} {b} h = from-frac _ _ (record { by = le→leb (N._*_ a 1) (N._*_ b 1) (omega arith) })
 
 pub 0≤+ : {x y : ℚ} → 0# ≤ x → 0# ≤ y → 0# ≤ x + y
 0≤+ {x} {y} = le (x ▸ y ▸ ∅) (λ x y. 0ₑ ≼ x ⇒ λ h. 0ₑ ≼ y ⇒ λ k. 0ₑ ≼ x ⊕ y by h ⊞ k) tt
@@ -100,9 +99,12 @@ pub ≤-antisym : {x y : ℚ} → x ≤ y → y ≤ x → x ≡ y
 ≤-antisym {x} {y} h k = ring (x ▸ y ▸ ∅) (λ x y. x ≐ x ⊝ y ⊕ y) tt
     ∙ ap (λ z. z + y) (no-sign (x - y) (k .by) (at (ring (x ▸ y ▸ ∅) (λ x y. y ⊝ x ≐ ⊖ (x ⊝ y)) tt) (h .by))) ∙ ring (y ▸ ∅) (λ y. 0ₑ ⊕ y ≐ y) tt
 
+pub ≤-total : (x y : ℚ) → (x ≤ y) ⊎ (y ≤ x)
+≤-total x y = elim (sign (y - x)) [ inl t ↦ inl (record { by = t }) | inr t ↦ inr (record { by = at (ring (x ▸ y ▸ ∅) (λ x y. ⊖ (y ⊝ x) ≐ x ⊝ y) tt) t }) ]
+
 -- of squares to numbers, without roots: were y < x, then −(x − y)² = (y² − x²) + 2y (x − y) would be no less than 0
 pub root : {x y : ℚ} → 0# ≤ y → x * x ≤ y * y → x ≤ y
-root {x} {y} hy h = go (sign (y - x))
+root {x} {y} hy h = elim (≤-total x y) [ inl l ↦ l | inr k ↦ other k ]
   where
     other : y ≤ x → x ≤ y
     other k = record {
@@ -110,10 +112,6 @@ root {x} {y} hy h = go (sign (y - x))
           (ring (x ▸ y ▸ ∅) (λ x y. ⊖ ((x ⊝ y) ⊗ (x ⊝ y)) ⊝ 0ₑ ≐ ⊖ ((x ⊝ y) ⊗ (x ⊝ y))) tt)
           (le (x ▸ y ▸ ∅) (λ x y. 0ₑ ≼ y ⇒ λ hy. x ⊗ x ≼ y ⊗ y ⇒ λ h. y ≼ x ⇒ λ k. 0ₑ ≼ ⊖ ((x ⊝ y) ⊗ (x ⊝ y)) by h ⊞ number (whole (pos 2)) ⊠ hy ⊠ k) tt hy h k .by)));
     }
-
-    go : T (nonneg (y - x)) ⊎ T (nonneg (neg (y - x))) → x ≤ y
-    go (inl t) = record { by = t }
-    go (inr t) = other (record { by = at (ring (x ▸ y ▸ ∅) (λ x y. ⊖ (y ⊝ x) ≐ x ⊝ y) tt) t })
 
 pub cancel : {x y c : ℚ} → 0# < c → x * c ≤ y * c → x ≤ y
 cancel {x} {y} {c} h k = record {
@@ -129,12 +127,15 @@ not-≤ {x} {y} f = record { by = go (nonneg (x - y)) (λ t. f (record { by = t 
     go true f = f tt
     go false f = tt
 
-pub <-≤ : {x y z : ℚ} → x < y → y ≤ z → x < z
-<-≤ {x} {y} {z} h k = not-≤ (λ l. both (nonneg (x - y)) (≤-trans k l .by) (h .by))
+pub <-not : {x y : ℚ} → x < y → y ≤ x → ⊥
+<-not {x} {y} h k = clash (nonneg (x - y)) (k .by) (h .by)
   where
-    both : (b : Bool) → T b → T (not b) → ⊥
-    both true s t = t
-    both false s t = s
+    clash : (b : Bool) → T b → T (not b) → ⊥
+    clash true s t = t
+    clash false s t = s
+
+pub <-≤ : {x y z : ℚ} → x < y → y ≤ z → x < z
+<-≤ h k = not-≤ (λ l. <-not h (≤-trans k l))
 
 -- ---- bounds
 
@@ -175,24 +176,6 @@ module _ {x y a b : ℚ} (h : x within a) (k : y within b) where
 
 pub within-nonneg : {x a : ℚ} → x within a → 0# ≤ a
 within-nonneg {x} {a} h = le (x ▸ a ▸ ∅) (λ x a. x ≼ a ⇒ λ p. ⊖ x ≼ a ⇒ λ q. 0ₑ ≼ a by number half ⊠ (p ⊞ q)) tt (h .up) (h .down)
-
--- the size of a whole number
-pub abs-is : (z : ℤ) → cls (whole z) within num (natAbs z)
-abs-is (pos n) = within-self (0≤num n)
-abs-is (negsuc n) = within-at (sym (whole-neg (pos (suc n)))) (within-neg (within-self (0≤num (suc n))))
-
--- k (1 / k) = 1; and where |k y| ≤ z, then |y| ≤ z / k
-pub over-is : (k : ℕ) → N._<_ 0 k → num k * cls (pos 1 over k) ≡ 1#
-unfolding _*_
-over-is k h = Quot·sound (ap pos (same k h))
-  where
-    same : (k : ℕ) → N._<_ 0 k → N._*_ (N._*_ k 1) 1 ≡ N._*_ 1 (suc (N._-_ (N._*_ 1 (suc (N._-_ k 1))) 1))
-    same k h = omega arith
-
-pub divide : (k : ℕ) {y z e : ℚ} → N._<_ 0 k → num k * y within z → z * cls (pos 1 over k) ≤ e → y within e
-divide k {y} {z} {e} h w b = within-≤ (within-at (ring (num k ▸ y ▸ cls (pos 1 over k) ▸ ∅) (λ k y i. k ⊗ y ⊗ i ≐ k ⊗ i ⊗ y) tt
-    ∙ ap (λ v. v * y) (over-is k h) ∙ ring (y ▸ ∅) (λ y. 1ₑ ⊗ y ≐ y) tt)
-    (within-* w (within-self (0≤over k)))) b
 
 -- 1 / c for a closed c above 0: by `tt`
 abbrev pub above : Frac → Bool
@@ -259,6 +242,16 @@ near-self {e} x h = record { up = more; down = more }
 pub near-sym : {e x y : ℚ} → x ≈⟨ e ⟩ y → y ≈⟨ e ⟩ x
 near-sym h = record { up = h .down; down = h .up }
 
+pub near-of : {x X : ℚ} → x ≡ X → x ≈⟨ 0# ⟩ X
+near-of {x} p = near (within-self (≤-refl 0#)) (ring (x ▸ ∅) (λ x. 0ₑ ≐ x ⊝ x) tt ∙ ap (λ z. x - z) p)
+
+pub near-nonneg : {x e X : ℚ} → x ≈⟨ e ⟩ X → 0# ≤ e
+near-nonneg h = within-nonneg (apart h)
+
+-- the size of what is near
+pub near-size : {x e X b : ℚ} → x ≈⟨ e ⟩ X → X within b → x within b + e
+near-size {x} {e} {X} h k = within-at (ring (x ▸ X ▸ ∅) (λ x X. X ⊕ (x ⊝ X) ≐ x) tt) (within-+ k (apart h))
+
 pub near-neg : {x e X : ℚ} → x ≈⟨ e ⟩ X → neg x ≈⟨ e ⟩ neg X
 near-neg {x} {e} {X} h = near (within-neg (apart h)) (ring (x ▸ X ▸ ∅) (λ x X. ⊖ (x ⊝ X) ≐ ⊖ x ⊝ ⊖ X) tt)
 
@@ -269,3 +262,7 @@ module _ {x X y Y e f : ℚ} (h : x ≈⟨ e ⟩ X) (k : y ≈⟨ f ⟩ Y) where
   pub near-* : {m n : ℚ} → X within m → Y within n → x * y ≈⟨ e * f + e * n + m * f ⟩ X * Y
   near-* u v = near (within-+ (within-+ (within-* (apart h) (apart k)) (within-* (apart h) v)) (within-* u (apart k)))
       (ring (x ▸ X ▸ y ▸ Y ▸ ∅) (λ x X y Y. (x ⊝ X) ⊗ (y ⊝ Y) ⊕ (x ⊝ X) ⊗ Y ⊕ X ⊗ (y ⊝ Y) ≐ x ⊗ y ⊝ X ⊗ Y) tt)
+
+  -- x y − X Y = x (y − Y) + (x − X) Y
+  pub near-product : {a b : ℚ} → x within a → Y within b → x * y ≈⟨ a * f + e * b ⟩ X * Y
+  near-product u v = near (within-+ (within-* u (apart k)) (within-* (apart h) v)) (ring (x ▸ X ▸ y ▸ Y ▸ ∅) (λ x X y Y. x ⊗ (y ⊝ Y) ⊕ (x ⊝ X) ⊗ Y ≐ x ⊗ y ⊝ X ⊗ Y) tt)

@@ -1,7 +1,7 @@
 -- Fractions: a whole number over a natural number above zero. Equality and order are said by cross products.
 use mathlib.Core.Path.{_≡_}
 use Prim.Native.Nat.{ℕ, zero, suc, _-_, _*_, _^_}
-use lib.IntN.{ℤ, pos, negsuc, negℤ, _+ℤ_, _*ℤ_}
+use lib.IntN.{ℤ, pos, negsuc, negℤ, natAbs, _+ℤ_, _*ℤ_}
 use lib.Signed.{leZ}
 use lib.Dec.{T}
 
@@ -22,6 +22,12 @@ n over d = record { num = n; low = d - 1 }
 abbrev pub whole : ℤ → Frac
 whole n = record { num = n; low = 0 }
 
+abbrev pub 0ᶠ : Frac
+0ᶠ = whole (pos 0)
+
+abbrev pub 1ᶠ : Frac
+1ᶠ = whole (pos 1)
+
 -- 1 / 2ᵏ
 abbrev pub part : ℕ → Frac
 part k = pos 1 over (2 ^ k)
@@ -41,6 +47,10 @@ x *ᶠ y = (x .num *ℤ y .num) over (den x * den y)
 abbrev pub neg : Frac → Frac
 neg x = record { num = negℤ (x .num); low = x .low }
 
+-- |x|
+abbrev pub magnitude : Frac → Frac
+magnitude x = record { num = pos (natAbs (x .num)); low = x .low }
+
 abbrev pub _-ᶠ_ : Frac → Frac → Frac
 x -ᶠ y = x +ᶠ neg y
 
@@ -49,7 +59,7 @@ abbrev pub inverse : Frac → Frac
 inverse x = upside-down (x .num) (x .low)
   where
     upside-down : ℤ → ℕ → Frac
-    upside-down (pos zero) l = whole (pos 0)
+    upside-down (pos zero) l = 0ᶠ
     upside-down (pos (suc n)) l = record { num = pos (suc l); low = n }
     upside-down (negsuc n) l = record { num = negsuc l; low = n }
 

@@ -3,7 +3,7 @@ use mathlib.Core.List.{List, [], _∷_}
 use Prim.Native.Nat.{ℕ, zero, suc, _-_, _*_, _%_, _^_}
 use lib.IntN.{ℤ, pos, negsuc, negℤ}
 use lib.Signed.{shrZ}
-use Rattle.exact.specs.Fraction.{Frac, den, whole, _over_, _-ᶠ_, _*ᶠ_, neg, inverse}
+use Rattle.exact.specs.Fraction.{Frac, 0ᶠ, 1ᶠ, den, whole, _over_, _-ᶠ_, _*ᶠ_, neg, inverse}
 
 -- P = 3.14159265358979323846264338327950288, and a quarter turn is P / 2
 abbrev pub P : Frac
@@ -27,7 +27,7 @@ mod4 (negsuc n) = 3 - n % 4
 -- ---- the series
 
 abbrev pub power : Frac → ℕ → Frac
-power x zero = whole (pos 1)
+power x zero = 1ᶠ
 power x (suc n) = x *ᶠ power x n
 
 abbrev pub factorial : ℕ → ℕ
@@ -36,7 +36,7 @@ factorial (suc n) = suc n * factorial n
 
 -- xᵃ/a! − xᵇ/b! + xᶜ/c! − …
 unfoldable pub alternating : Frac → List ℕ → Frac
-alternating x [] = whole (pos 0)
+alternating x [] = 0ᶠ
 alternating x (n ∷ ns) = power x n *ᶠ (pos 1 over factorial n) -ᶠ alternating x ns
 
 abbrev pub odds : List ℕ

@@ -2,7 +2,7 @@
 use mathlib.Core.Bool.{Bool, true, false}
 use mathlib.Core.List.{List, [], _∷_}
 use lib.IntN.{pos}
-use Rattle.exact.specs.Fraction.{Frac, whole, _over_, _*ᶠ_}
+use Rattle.exact.specs.Fraction.{Frac, 0ᶠ, _over_, _*ᶠ_}
 use Rattle.exact.specs.Quat.{Quat, fractions, product}
 use Rattle.exact.specs.Sine.{sine, cosine}
 
@@ -26,7 +26,7 @@ along nil Z s c = record { x = nil; y = nil; z = s; w = c }
 
 -- the turn by a about an axis: (sin a/2, 0, 0, cos a/2) for X, and Y and Z likewise
 abbrev pub about : Axis → Frac → Quat Frac
-about axis a = along (whole (pos 0)) axis (sine (a *ᶠ (pos 1 over 2))) (cosine (a *ᶠ (pos 1 over 2)))
+about axis a = along 0ᶠ axis (sine (a *ᶠ (pos 1 over 2))) (cosine (a *ᶠ (pos 1 over 2)))
 
 -- p q r; with Ex, r q p
 abbrev pub ordered : Bool → Quat Frac → Quat Frac → Quat Frac → Quat Frac

@@ -1,7 +1,7 @@
 -- Vectors over the same operations, and the image of a vector under a quaternion with vector part b and scalar part w:
 -- (w² − b·b) v + 2 (v·b) b + 2 w (b × v).
 use lib.IntN.{pos, negsuc}
-use Rattle.exact.specs.Fraction.{Frac, whole}
+use Rattle.exact.specs.Fraction.{Frac, 0ᶠ, whole}
 use Rattle.exact.specs.Quat.{Ops, Quat, fractions}
 
 pub record Vec (A : Type 0) : Type 0 where
@@ -45,4 +45,4 @@ exact-image = rotated fractions (whole (pos 2))
 
 -- the image of (0, 0, −1)
 abbrev pub beam : Quat Frac → Vec Frac
-beam q = exact-image q (vec (whole (pos 0)) (whole (pos 0)) (whole (negsuc 0)))
+beam q = exact-image q (vec 0ᶠ 0ᶠ (whole (negsuc 0)))

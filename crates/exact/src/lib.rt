@@ -1,5 +1,8 @@
 // What is proved of exact numbers, each theorem asked for by the contract of a function. The statements are in specs/Facts.antt and specs/Table.antt.
-ghost use Rattle.exact.specs.Facts.{Lengths-multiply, Products-associate, Totals-split, Triangle, Triangle3, Times-right, Times-left, Image-is-product, Images-near, Circle, Sine-circle, Sizes, Axis-turn-length, Exact-turn-length, Nearest-turns, Any-turns, Any-turns-wide, Odd-even, Equal-sines, Adding, Doubling, Steady, Sine-steady, Quaternion-examples, Sine-examples, No-turn, Half-turns};
+ghost use Rattle.exact.specs.Facts.{Lengths-multiply, Products-associate, Totals-split, Triangle, Triangle3, Times-right, Times-left, Image-is-product, Images-near};
+ghost use Rattle.exact.specs.Facts.{Circle, Sine-circle, Sizes, Axis-turn-length, Exact-turn-length, Exact-turn-long, Nearest-turns, Any-turns, Any-turns-wide};
+ghost use Rattle.exact.specs.Facts.{Odd-even, Equal-sines, Adding, Doubling, Halving, Steady, Sine-steady};
+ghost use Rattle.exact.specs.Facts.{Quaternion-examples, Sine-examples, No-turn, Half-turns};
 ghost use Rattle.exact.specs.Table.{Table-reads};
 
 /// The squared length of a product is the product of the squared lengths; products associate, and those of lists split.
@@ -42,6 +45,7 @@ pub fn circle_stands() -> u8
 pub fn turn_length_stands() -> u8
     ensures axis { λ _. ⌜ Axis-turn-length ⌝ }
     ensures letters { λ _. ⌜ Exact-turn-length ⌝ }
+    ensures long { λ _. ⌜ Exact-turn-long ⌝ }
 {
     0
 }
@@ -69,10 +73,11 @@ pub fn equal_sines_stand() -> u8
     0
 }
 
-/// The addition theorem and the double angle, within 2^-57.
+/// The addition theorem, the double angle and the half angle, within 2^-57.
 pub fn adding_stands() -> u8
     ensures sum { λ _. ⌜ Adding ⌝ }
     ensures double { λ _. ⌜ Doubling ⌝ }
+    ensures half { λ _. ⌜ Halving ⌝ }
 {
     0
 }

@@ -11,12 +11,15 @@ zero = bits 0
 abbrev pub one : Float
 one = bits 0x3FF0_0000_0000_0000
 
--- u − u³/3 + … − u¹⁵/15, each 1/n the nearest f64, for a u of at most 1/8 in size
-abbrev pub atan-kernel : Float → Float
-atan-kernel u =
-    odd-polynomial u (bits 0x3FD5_5555_5555_5555) (
+-- 1/5, 1/7, … 1/15, each the nearest f64
+abbrev pub odd-parts : List Float
+odd-parts =
     bits 0x3FC9_9999_9999_999A ∷ bits 0x3FC2_4924_9249_2492 ∷ bits 0x3FBC_71C7_1C71_C71C
-    ∷ bits 0x3FB7_45D1_745D_1746 ∷ bits 0x3FB3_B13B_13B1_3B14 ∷ bits 0x3FB1_1111_1111_1111 ∷ [])
+    ∷ bits 0x3FB7_45D1_745D_1746 ∷ bits 0x3FB3_B13B_13B1_3B14 ∷ bits 0x3FB1_1111_1111_1111 ∷ []
+
+-- u − u³/3 + … − u¹⁵/15, for a u of at most 1/8 in size
+abbrev pub atan-kernel : Float → Float
+atan-kernel u = odd-polynomial u (bits 0x3FD5_5555_5555_5555) odd-parts
 
 -- a + arctan ((q − b) / (1 + q b)), where a is the arc tangent of b
 unfoldable pub atan-near : Float → Float → Float → Float
@@ -49,6 +52,13 @@ angle-up y x =
 unfoldable pub atan2-float : Float → Float → Float
 atan2-float y x = cond (lt y zero) (neg (angle-up (neg y) x)) (angle-up y x)
 
--- the arc cosine of f brought into −1..1
+-- f brought into −1..1
+abbrev pub in-unit : Float → Float
+in-unit f = clamped f (neg one) one
+
+-- √(1 − g²)
+abbrev pub other-side : Float → Float
+other-side g = sqrt binary64 ((one ⊖ g) ⊗ (one ⊕ g))
+
 abbrev pub acos-float : Float → Float
-acos-float f = let g = clamped f (neg one) one in atan2-float (sqrt binary64 ((one ⊖ g) ⊗ (one ⊕ g))) g
+acos-float f = let g = in-unit f in atan2-float (other-side g) g

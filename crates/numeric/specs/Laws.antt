@@ -6,10 +6,10 @@ use Rattle.exact.specs.Fraction.{Frac, _over_, whole, part, neg, _+ᶠ_, _-ᶠ_
 use Rattle.exact.specs.Distance.{Size, Close}
 use Rattle.exact.specs.Sine.{sine, cosine}
 use Rattle.rounding.specs.Value.{val, Is}
-use Rattle.rounding.specs.Theorems.{Within, magnitude}
+use Rattle.rounding.specs.Theorems.{Rounded, magnitude}
 use Rattle.numeric.specs.Floats.{bits}
 use Rattle.numeric.specs.Sine.{sin-float, cos-float}
-use Rattle.numeric.specs.ArcTangent.{atan2-float}
+use Rattle.numeric.specs.ArcTangent.{atan2-float, in-unit, other-side, acos-float}
 
 -- ---- sine and cosine
 
@@ -20,12 +20,12 @@ pub record Angle (v : Float) : Type 0 where
 
 -- s is the sine of v, within 2^-44; and for |v| ≤ 1 within 2^-44 |v|
 pub record Is-sine (s v : Float) : Type 0 where
-  pub near : Within s (part 44) (sine (val v))
+  pub near : Rounded s (sine (val v)) (part 44)
   pub sharp : Size (val v) (whole (pos 1)) → Close (val s) (part 44 *ᶠ magnitude (val v)) (sine (val v))
 
 -- c is the cosine of v, within 2^-44
 abbrev pub Is-cosine : Float → Float → Type 0
-Is-cosine c v = Within c (part 44) (cosine (val v))
+Is-cosine c v = Rounded c (cosine (val v)) (part 44)
 
 abbrev pub Sine-law : Type 0
 Sine-law = (v : Float) → Angle v → Is-sine (sin-float v) v
@@ -73,3 +73,14 @@ pub record Is-angle (t y x : Float) : Type 0 where
 
 abbrev pub Angle-law : Type 0
 Angle-law = (y x : Float) → Is y → Is x → Is-angle (atan2-float y x) y x
+
+-- t is the arc cosine of f: the angle of the point of the upper half circle that lies above f, or at the end next to f
+pub record Is-arc-cosine (t f : Float) : Type 0 where
+  pub angle : Is-angle t (other-side (in-unit f)) (in-unit f)
+  pub above : nought ≤ᶠ val (other-side (in-unit f))
+  -- the square of its distance from the origin is 1, within 2^-50
+  pub circle : Close (squared (other-side (in-unit f)) (in-unit f)) (part 50) (whole (pos 1))
+  pub inside : Size (val f) (whole (pos 1)) → in-unit f ≡ f
+
+abbrev pub Arc-cosine-law : Type 0
+Arc-cosine-law = (f : Float) → Is f → Is-arc-cosine (acos-float f) f

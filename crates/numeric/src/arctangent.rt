@@ -2,9 +2,12 @@
 ghost use mathlib.Core.Path.{_≡_};
 ghost use lib.Ieee.{binary64};
 ghost use Rattle.std.specs.Floats as Floats;
+ghost use Rattle.std.specs.Vec.{made};
 ghost use Rattle.fault.specs.Answers.{answer, _⨾_};
+ghost use Rattle.rounding.specs.Value.{Is};
 ghost use Rattle.numeric.specs.Tests.{number-fault};
 ghost use Rattle.numeric.specs.ArcTangent.{atan-kernel, atan-near, atan-unit, angle-up, atan2-float, acos-float};
+ghost use Rattle.numeric.specs.Laws.{Is-angle, Is-arc-cosine};
 use crate::checks::check_number;
 use fault::NumberFault;
 
@@ -83,7 +86,8 @@ fn angle_up(y: f64, x: f64) -> f64
 
 // The angle of the point (x, y) with no test of the numbers, for a caller that has tested them.
 pub fn atan2_raw(y: f64, x: f64) -> f64
-    ensures { λ t. ⌜ t ≡ atan2-float y x ⌝ }
+    ensures value { λ t. ⌜ t ≡ atan2-float y x ⌝ }
+    ensures near { λ t. ⌜ (Is y → Is x → Is-angle t y x) ⌝ }
 {
     if y < 0.0 {
         -angle_up(-y, x)
@@ -94,18 +98,28 @@ pub fn atan2_raw(y: f64, x: f64) -> f64
 
 // The angle of the point (x, y) in radians, from −P to P; positive zero at the origin.
 pub fn atan2(y: f64, x: f64) -> Result<f64, NumberFault>
-    ensures { λ r. ⌜ r ≡ answer (number-fault 0 y ⨾ number-fault 1 x) (atan2-float y x) ⌝ }
+    ensures value { λ r. ⌜ r ≡ answer (number-fault 0 y ⨾ number-fault 1 x) (atan2-float y x) ⌝ }
+    ensures near { λ r. ⌜ made r (λ t. Is-angle t y x) ⌝ }
 {
     check_number(0, y)?;
     check_number(1, x)?;
     Ok(atan2_raw(y, x))
 }
 
+// The angle whose cosine is f with no test of f, for a caller that has tested it.
+pub fn acos_raw(f: f64) -> f64
+    ensures value { λ t. ⌜ t ≡ acos-float f ⌝ }
+    ensures near { λ t. ⌜ (Is f → Is-arc-cosine t f) ⌝ }
+{
+    let g = f.clamp(-1.0, 1.0);
+    atan2_raw(sqrt((1.0 - g) * (1.0 + g)), g)
+}
+
 // The angle in radians whose cosine is f, brought into −1..1 first.
 pub fn acos_approx(f: f64) -> Result<f64, NumberFault>
-    ensures { λ r. ⌜ r ≡ answer (number-fault 0 f) (acos-float f) ⌝ }
+    ensures value { λ r. ⌜ r ≡ answer (number-fault 0 f) (acos-float f) ⌝ }
+    ensures near { λ r. ⌜ made r (λ t. Is-arc-cosine t f) ⌝ }
 {
     check_number(0, f)?;
-    let g = f.clamp(-1.0, 1.0);
-    Ok(atan2_raw(sqrt((1.0 - g) * (1.0 + g)), g))
+    Ok(acos_raw(f))
 }

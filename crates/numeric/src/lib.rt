@@ -4,6 +4,7 @@ mod checks;
 mod sine;
 
 pub use arctangent::acos_approx;
+pub use arctangent::acos_raw;
 pub use arctangent::atan2;
 pub use arctangent::atan2_raw;
 pub use arctangent::sqrt;

@@ -1,8 +1,10 @@
 // Sine and cosine: the nearest number of quarter turns is taken off, and a polynomial is left.
 ghost use mathlib.Core.Path.{_≡_};
+ghost use Rattle.std.specs.Vec.{made};
 ghost use Rattle.fault.specs.Answers.{answer};
 ghost use Rattle.numeric.specs.Tests.{angle-fault};
 ghost use Rattle.numeric.specs.Sine.{sin-kernel, cos-kernel, quarter-turns, remainder, turned, upward, sin-float, cos-float};
+ghost use Rattle.numeric.specs.Laws.{Angle, Is-sine, Is-cosine};
 use crate::checks::check_angle;
 use fault::NumberFault;
 use std::num::saturating_f64_to_u32;
@@ -87,7 +89,8 @@ fn upward(a: f64) -> (f64, f64)
 
 // The sine and the cosine with no test of the angle, for a caller that has tested it. Beyond 1000 they are floats, and no more.
 pub fn sin_cos_raw(v: f64) -> (f64, f64)
-    ensures { λ r. ⌜ r ≡ (sin-float v, cos-float v) ⌝ }
+    ensures value { λ r. ⌜ r ≡ (sin-float v, cos-float v) ⌝ }
+    ensures near { λ r. ⌜ (Angle v → Is-sine (r .0) v × Is-cosine (r .1) v) ⌝ }
 {
     let a = v.abs();
     let (s, c) = upward(a);
@@ -102,7 +105,8 @@ pub fn sin_cos_raw(v: f64) -> (f64, f64)
 
 // The sine and the cosine of an angle in radians.
 pub fn sin_cos(v: f64) -> Result<(f64, f64), NumberFault>
-    ensures { λ r. ⌜ r ≡ answer (angle-fault 0 v) (sin-float v, cos-float v) ⌝ }
+    ensures value { λ r. ⌜ r ≡ answer (angle-fault 0 v) (sin-float v, cos-float v) ⌝ }
+    ensures near { λ r. ⌜ made r (λ p. Is-sine (p .0) v × Is-cosine (p .1) v) ⌝ }
 {
     check_angle(0, v)?;
     Ok(sin_cos_raw(v))
@@ -110,7 +114,8 @@ pub fn sin_cos(v: f64) -> Result<(f64, f64), NumberFault>
 
 // The sine of an angle in radians.
 pub fn sin(v: f64) -> Result<f64, NumberFault>
-    ensures { λ r. ⌜ r ≡ answer (angle-fault 0 v) (sin-float v) ⌝ }
+    ensures value { λ r. ⌜ r ≡ answer (angle-fault 0 v) (sin-float v) ⌝ }
+    ensures near { λ r. ⌜ made r (λ s. Is-sine s v) ⌝ }
 {
     check_angle(0, v)?;
     Ok(sin_cos_raw(v).0)
@@ -118,7 +123,8 @@ pub fn sin(v: f64) -> Result<f64, NumberFault>
 
 // The cosine of an angle in radians.
 pub fn cos(v: f64) -> Result<f64, NumberFault>
-    ensures { λ r. ⌜ r ≡ answer (angle-fault 0 v) (cos-float v) ⌝ }
+    ensures value { λ r. ⌜ r ≡ answer (angle-fault 0 v) (cos-float v) ⌝ }
+    ensures near { λ r. ⌜ made r (λ c. Is-cosine c v) ⌝ }
 {
     check_angle(0, v)?;
     Ok(sin_cos_raw(v).1)

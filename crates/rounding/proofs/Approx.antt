@@ -14,11 +14,10 @@ use Rattle.exact.specs.Fraction.{neg as negᶠ}
 use Rattle.exact.proofs.Ring.{con, _⊕_, _⊗_, ⊖_, _⊝_}
 use Rattle.exact.proofs.Rational.{ℚ, cls, _+_, _*_, neg, _-_, ∅, _▸_, _≐_, ring}
 use Rattle.exact.proofs.Order.{_≤_, number, _⊞_, _⊠_, _≼_, _by_, _⇒_, le, from-frac, and-l, and-r}
-use Rattle.exact.proofs.Within.{0#, 0ₑ, 1ₑ, computes, ≤-trans, ≤-of, _within_, within-≤, within-at, within-+, within-*, within-neg, within-over, within-nonneg, above, inverse-of, _≈⟨_⟩_, near, apart, near-≤, near-trans, near-+, near-neg}
+use Rattle.exact.proofs.Within.{0#, 0ₑ, 1ₑ, computes, ≤-trans, ≤-of, _within_, within-≤, within-at, within-+, within-*, within-neg, within-over, within-nonneg, above, inverse-of, _≈⟨_⟩_, near, apart, near-≤, near-trans, near-+, near-neg, near-size, near-nonneg, near-product}
 use Rattle.exact.proofs.Within.{root as upto}
 use Rattle.rounding.specs.Value.{val, Is}
 use Rattle.rounding.specs.Theorems.{limit}
-use Rattle.rounding.proofs.Fractions.{near-size, near-nonneg}
 use Rattle.rounding.proofs.Values.{#_, neg-value}
 use Rattle.rounding.proofs.Rounds.{Rounds, own, exact-rounds}
 use Rattle.rounding.proofs.Operations.{rounds-≤, rounds-then, negated, sum-rounds, difference-rounds, product-rounds, quotient-above, root-rounds, root-share}
@@ -69,10 +68,10 @@ given {x} {t} {b} {e} h k = record {
 pub opposite : {x : Float} {t : ℚ} {b e : Frac} → Approx x t b e → Approx (F.neg x) (neg t) b e
 opposite {x} p = record { rounds = negated (p .rounds); size = within-at (sym (neg-value x)) (within-neg (p .size)); exact = within-neg (p .exact) }
 
--- x is v rounded, and v near t
-rounded : {x : Float} {v t : ℚ} {b c d e : Frac} → Rounds x v (cls d) → v within cls b → t within cls b → v ≈⟨ cls e ⟩ t → cls b + cls d ≤ cls c → Approx x t c (d +ᶠ e)
+-- x is v by-rounding, and v near t
+by-rounding : {x : Float} {v t : ℚ} {b c d e : Frac} → Rounds x v (cls d) → v within cls b → t within cls b → v ≈⟨ cls e ⟩ t → cls b + cls d ≤ cls c → Approx x t c (d +ᶠ e)
 unfolding computes
-rounded {x} {v} {t} {b} {c} {d} h k l n m = record {
+by-rounding {x} {v} {t} {b} {c} {d} h k l n m = record {
   rounds = rounds-then h n;
   size = within-≤ (near-size (h .near) k) m;
   exact = within-≤ l (le (cls b ▸ cls c ▸ cls d ▸ ∅) (λ b c d. 0ₑ ≼ d ⇒ λ h. b ⊕ d ≼ c ⇒ λ k. b ≼ c by h ⊞ k) tt (near-nonneg (h .near)) m);
@@ -85,19 +84,18 @@ module _ {x y : Float} {s t : ℚ} {a b d e : Frac} (p : Approx x s a d) (q : Ap
 
   pub plus : T (a +ᶠ b ≤ᵇ limit) → Approx (add binary64 x y) (s + t) ((a +ᶠ b) *ᶠ grown) ((a +ᶠ b) *ᶠ u +ᶠ (d +ᶠ e))
   unfolding computes
-  plus l = let k = within-+ (p .size) (q .size) in rounded (sum-rounds (p .rounds .is) (q .rounds .is) k (known-≤ l)) k (within-+ (p .exact) (q .exact)) (near-+ (p .rounds .near) (q .rounds .near)) sum-grown
+  plus l = let k = within-+ (p .size) (q .size) in by-rounding (sum-rounds (p .rounds .is) (q .rounds .is) k (known-≤ l)) k (within-+ (p .exact) (q .exact)) (near-+ (p .rounds .near) (q .rounds .near)) sum-grown
 
   pub minus : T (a +ᶠ b ≤ᵇ limit) → Approx (sub binary64 x y) (s - t) ((a +ᶠ b) *ᶠ grown) ((a +ᶠ b) *ᶠ u +ᶠ (d +ᶠ e))
   unfolding computes
-  minus l = let k = within-+ (p .size) (within-neg (q .size)) in rounded (difference-rounds (p .rounds .is) (q .rounds .is) k (known-≤ l)) k (within-+ (p .exact) (within-neg (q .exact))) (near-+ (p .rounds .near) (near-neg (q .rounds .near))) sum-grown
+  minus l = let k = within-+ (p .size) (within-neg (q .size)) in by-rounding (difference-rounds (p .rounds .is) (q .rounds .is) k (known-≤ l)) k (within-+ (p .exact) (within-neg (q .exact))) (near-+ (p .rounds .near) (near-neg (q .rounds .near))) sum-grown
 
-  -- x y − s t = x (y − t) + (x − s) t
   pub times : T (a *ᶠ b ≤ᵇ limit) → Approx (mul binary64 x y) (s * t) (a *ᶠ b *ᶠ grown +ᶠ tiny) (a *ᶠ b *ᶠ u +ᶠ tiny +ᶠ (a *ᶠ e +ᶠ d *ᶠ b))
   unfolding computes
   times l =
       let k = within-* (p .size) (q .size) in
-      rounded (product-rounds (p .rounds .is) (q .rounds .is) k (known-≤ l)) k (within-* (p .exact) (q .exact))
-      (near (within-+ (within-* (p .size) (apart (q .rounds .near))) (within-* (apart (p .rounds .near)) (q .exact))) (ring (# x ▸ # y ▸ s ▸ t ▸ ∅) (λ x y s t. x ⊗ (y ⊝ t) ⊕ (x ⊝ s) ⊗ t ≐ x ⊗ y ⊝ s ⊗ t) tt))
+      by-rounding (product-rounds (p .rounds .is) (q .rounds .is) k (known-≤ l)) k (within-* (p .exact) (q .exact))
+      (near-product (p .rounds .near) (q .rounds .near) (p .size) (q .exact))
       (≤-of (ring (cls a ▸ cls b ▸ ∅) (λ a b. a ⊗ b ⊕ (a ⊗ b ⊗ con u ⊕ con tiny) ≐ a ⊗ b ⊗ (1ₑ ⊕ con u) ⊕ con tiny) tt))
 
   -- r t = s, and c is no more than y and t: (r' − r) y = (r' y − x) + (x − s) + r (t − y)
@@ -132,10 +130,6 @@ root {x} {t} {b} {e} c p h m =
       k .1,
       near-trans (near-≤ (k .2) (le (# x ▸ cls b ▸ ∅) (λ x b. x ≼ b ⇒ λ h. x ⊗ con root-share ≼ b ⊗ con root-share by number root-share ⊠ h) tt (p .size .up))) (p .rounds .near),
     )
-
--- a smaller bound that is known otherwise
-pub known : {x : Float} {t : ℚ} {b c e : Frac} → Approx x t b e → # x within cls c → t within cls c → Approx x t c e
-known p h k = record { rounds = p .rounds; size = h; exact = k }
 
 -- a larger bound and error
 pub looser : {x : Float} {t : ℚ} {b c e f : Frac} → Approx x t b e → T (b ≤ᵇ c) → T (e ≤ᵇ f) → Approx x t c f

@@ -19,7 +19,6 @@ use Rattle.exact.proofs.Rational.{ℚ}
 use Rattle.exact.proofs.Order.{_≤_, _<_, from-frac, to-frac}
 use Rattle.exact.proofs.Within.{not-≤, ≤-trans, ≤-of}
 use Rattle.rounding.specs.Value.{signed, top, bottom, val}
-use Rattle.rounding.proofs.Fractions.{<-not}
 use Rattle.rounding.proofs.Signs.{signed-scale}
 use Rattle.rounding.proofs.Ticks.{den-is}
 use Rattle.rounding.proofs.Rounds.{Exact}
@@ -86,7 +85,7 @@ upto-is s a t b = same-test (below s a t b || level s a t b) (leZ (signed s a) (
 scales : (f : ℤ → ℤ → Bool) (s t : Bool) (a b d e : ℕ) → f (signed s (a * d)) (signed t (b * e)) ≡ f (signed s a *ℤ pos d) (signed t b *ℤ pos e)
 scales f s t a b d e = ap (λ (z : ℤ). f z (signed t (b * e))) (sym (signed-scale s a d)) ∙ ap (λ (z : ℤ). f (signed s a *ℤ pos d) z) (sym (signed-scale t b e))
 
-pub lt-value : (x y : Float) → T (finite x) → T (finite y) → lt x y ≡ ltZ (top x *ℤ pos (bottom y)) (top y *ℤ pos (bottom x))
+lt-value : (x y : Float) → T (finite x) → T (finite y) → lt x y ≡ ltZ (top x *ℤ pos (bottom y)) (top y *ℤ pos (bottom x))
 unfolding lt
 lt-value nan y p q = absurd p
 lt-value (inf s) y p q = absurd p
@@ -94,7 +93,7 @@ lt-value (fin s m e) nan p q = absurd q
 lt-value (fin s m e) (inf t) p q = absurd q
 lt-value (fin s m e) (fin t n d) p q = below-is s (m * up e * down d) t (n * up d * down e) ∙ scales ltZ s t (m * up e) (n * up d) (down d) (down e)
 
-pub le-value : (x y : Float) → T (finite x) → T (finite y) → le x y ≡ leZ (top x *ℤ pos (bottom y)) (top y *ℤ pos (bottom x))
+le-value : (x y : Float) → T (finite x) → T (finite y) → le x y ≡ leZ (top x *ℤ pos (bottom y)) (top y *ℤ pos (bottom x))
 unfolding le
 le-value nan y p q = absurd p
 le-value (inf s) y p q = absurd p
@@ -139,18 +138,3 @@ module _ {x y : Float} {s t : ℚ} (h : Exact x s) (k : Exact y t) where
 
   pub le-no : le x y ≡ false → t < s
   le-no e = not-≤ (λ l. omega (arith, le-false (over x y) (over y x) (sym le-is ∙ e), le-T (over x y) (over y x) (order-to h k l)))
-
-  -- and the values of the test
-  pub lt-when : s < t → lt x y ≡ true
-  lt-when l = go (lt x y) refl
-    where
-      go : (b : Bool) → lt x y ≡ b → b ≡ true
-      go true e = refl
-      go false e = absurd (<-not l (lt-no e))
-
-  pub le-when : s ≤ t → le x y ≡ true
-  le-when l = go (le x y) refl
-    where
-      go : (b : Bool) → le x y ≡ b → b ≡ true
-      go true e = refl
-      go false e = absurd (<-not (le-no e) l)

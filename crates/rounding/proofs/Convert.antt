@@ -1,6 +1,6 @@
 -- Conversions: whole numbers to floats, floats to whole numbers, bit patterns to floats. And two results that come of them: a whole number times a short one, and a quotient from 0 to 1.
 use mathlib.Core.Path.{_≡_, sym, ap, _∙_, subst}
-use mathlib.Core.Bool.{true, false, _&&_}
+use mathlib.Core.Bool.{Bool, true, false, _&&_}
 use Prim.Native.Nat as N
 use Prim.Native.Nat.{ℕ, zero, suc, _^_, min}
 use native.Mathlib.Nat.{lt-of-lt-of-le, mul-lt-mul-of-pos-right, mul-le-mul-left, mul-one, lt-irrefl, mod-lt, div-add-mod'}
@@ -15,17 +15,17 @@ use lib.Ieee.Exact.{HasValue, odd-sign}
 use lib.Ieee.Fits.{down-pos, ofInt-fits}
 use lib.Ieee.Scale.{finite}
 use borrow.Author.Tests.{ne-eqb}
-use Rattle.exact.specs.Fraction.{_over_, whole, inverse}
+use Rattle.exact.specs.Fraction.{_over_, inverse}
 use Rattle.exact.proofs.Ring.{_⊗_, ⊖_}
-use Rattle.exact.proofs.Rational.{ℚ, cls, _+_, _*_, _-_, neg-cls, ∅, _▸_, _≐_, ring}
+use Rattle.exact.proofs.Rational.{ℚ, cls, _*_, neg-cls, ∅, _▸_, _≐_, ring}
 use Rattle.exact.proofs.Order.{_≤_, _<_, _⊠_, _≼_, _by_, _⇒_, le, and-l, and-r}
-use Rattle.exact.proofs.Within.{0#, 1#, 0ₑ, 1ₑ, num, computes, closed, ≤-trans, ≤-of, 0≤num, 0≤*, not-≤, cancel, _≈⟨_⟩_}
+use Rattle.exact.proofs.Within.{0#, 1#, 0ₑ, 1ₑ, num, computes, closed, ≤-trans, ≤-of, 0≤num, 0≤*, not-≤, cancel, _≈⟨_⟩_, num-≤, num-*, <-not}
+use Rattle.exact.proofs.Numbers.{≤-num, over-num, 0<num}
 use Rattle.rounding.specs.Value.{signed, val, L, Is, field, units, spelled}
 use Rattle.rounding.specs.Theorems.{limit}
-use Rattle.rounding.proofs.Fractions.{W, num-≤, ≤-num, num-*, over-num, 0<num, <-not}
-use Rattle.rounding.proofs.Values.{#_, of-value, Λ}
-use Rattle.rounding.proofs.Rounds.{Rounds, Exact, exact-at}
-use Rattle.rounding.proofs.Operations.{quotient-rounded, above-≠, ratio-times, reciprocal}
+use Rattle.rounding.proofs.Values.{W, #_, Λ}
+use Rattle.rounding.proofs.Rounds.{Rounds, Exact, value-exact, exact-at}
+use Rattle.rounding.proofs.Operations.{quotient-nearest, above-≠, ratio-times, reciprocal}
 use Rattle.rounding.proofs.Exact.{Short, rounds-between, product-exact}
 
 -- ---- literals
@@ -41,28 +41,26 @@ literal-exact t e = record { is = literal-is t; value = e }
 pub literal : {x : Float} {c e : ℚ} → T (fits binary64 x && finite x) → # x ≈⟨ e ⟩ c → Rounds x c e
 literal t h = record { is = literal-is t; near = h }
 
--- any bit pattern that is finite has the value that it spells
+-- ---- bit patterns: a sign, a field and digits
+
+fields-exact : (s : Bool) (x t : ℕ) → N._<_ x 2047 → T (fits binary64 (ofFields binary64 s x t)) → Exact (ofFields binary64 s x t) (cls (signed s (units x t) over L))
+unfolding ofFields L
+fields-exact s zero t l = λ f. value-exact _ s t (2 ^ 1074) (pow-pos 1074) f (subst (λ (n : ℕ). HasValue (odd 53 s t 0 1074) s n (2 ^ 1074)) (mul-one t) (odd-sign 53 s t 0 1074))
+fields-exact s (suc x) t l =
+    rw (ne-eqb (suc x) 2047 (λ (e : suc x ≡ 2047). lt-irrefl 2047 (subst (λ (n : ℕ). N._<_ n 2047) e l)))
+    (λ f. value-exact _ s (N._*_ (N._+_ (2 ^ 52) t) (2 ^ x)) (2 ^ 1074) (pow-pos 1074) f (odd-sign 53 s (N._+_ (2 ^ 52) t) x 1074))
+
+-- what is finite has the value that it spells
 pub bits-exact : (b : ℕ) → N._<_ (field b) 2047 → Exact (ofBits binary64 b) (cls (spelled b))
-unfolding ofBits ofFields L
-bits-exact b h = go (field b) h (ofBits-fits binary64 b)
-  where
-    -- of a sign, a field and digits
-    Is-spelled : ℕ → Type 0
-    Is-spelled x = T (fits binary64 (ofFields binary64 (leb (2 ^ 63) b) x (N._%_ b (2 ^ 52)))) → Exact (ofFields binary64 (leb (2 ^ 63) b) x (N._%_ b (2 ^ 52))) (cls (signed (leb (2 ^ 63) b) (units x (N._%_ b (2 ^ 52))) over L))
-
-    with-value : (x : Float) (a : ℕ) → T (fits binary64 x) → HasValue x (leb (2 ^ 63) b) a (2 ^ 1074) → Exact x (cls (signed (leb (2 ^ 63) b) a over L))
-    with-value x a f v = let k = of-value x (leb (2 ^ 63) b) a (2 ^ 1074) (pow-pos 1074) v in record { is = record { fit = f; fin = k .0 }; value = k .1 }
-
-    go : (x : ℕ) → N._<_ x 2047 → Is-spelled x
-    go zero l = λ f. with-value _ _ f (subst (λ (n : ℕ). HasValue (odd 53 (leb (2 ^ 63) b) (N._%_ b (2 ^ 52)) 0 1074) (leb (2 ^ 63) b) n (2 ^ 1074)) (mul-one (N._%_ b (2 ^ 52))) (odd-sign 53 (leb (2 ^ 63) b) (N._%_ b (2 ^ 52)) 0 1074))
-    go (suc x) l = rw (ne-eqb (suc x) 2047 (λ (e : suc x ≡ 2047). lt-irrefl 2047 (subst (λ (n : ℕ). N._<_ n 2047) e l))) (λ f. with-value _ _ f (odd-sign 53 (leb (2 ^ 63) b) (N._+_ (2 ^ 52) (N._%_ b (2 ^ 52))) x 1074))
+unfolding ofBits
+bits-exact b h = fields-exact (leb (2 ^ 63) b) (field b) (N._%_ b (2 ^ 52)) h (ofBits-fits binary64 b)
 
 -- ---- whole numbers
 
 pub whole-exact : (z : ℤ) → N._≤_ (natAbs z) (2 ^ 53) → Exact (ofInt binary64 z) (W z)
 unfolding ofInt
-whole-exact (pos n) h = let v = of-value (ofInt binary64 (pos n)) false n 1 (lit< tt) (round-whole binary64 false n h) in record { is = record { fit = ofInt-fits binary64 (pos n); fin = v .0 }; value = v .1 }
-whole-exact (negsuc n) h = let v = of-value (ofInt binary64 (negsuc n)) true (suc n) 1 (lit< tt) (round-whole binary64 true (suc n) h) in record { is = record { fit = ofInt-fits binary64 (negsuc n); fin = v .0 }; value = v .1 }
+whole-exact (pos n) h = value-exact _ false n 1 (lit< tt) (ofInt-fits binary64 (pos n)) (round-whole binary64 false n h)
+whole-exact (negsuc n) h = value-exact _ true (suc n) 1 (lit< tt) (ofInt-fits binary64 (negsuc n)) (round-whole binary64 true (suc n) h)
 
 -- k times n / 2 ^ j, where k n has 53 digits
 pub multiple-exact : {c : Float} (k n j : ℕ) → Is c → # c ≡ cls (pos n over (2 ^ j)) → N._≤_ j 1074 → N._≤_ k (2 ^ 53) → N._<_ (N._*_ k n) (2 ^ 53) → Exact (mul binary64 (ofInt binary64 (pos k)) c) (num k * # c)
@@ -109,11 +107,12 @@ whole-part a d D =
     none : (q r : ℕ) → N._+_ (N._*_ q d) r ≡ a → N._<_ r d → N._≤_ (N._*_ (suc q) d) a → ⊥
     none q r m l h = omega arith
 
+not-below : (a d : ℕ) → 0# ≤ cls (pos a over d)
+unfolding computes
+not-below a d = closed tt
+
 below-zero : (a d : ℕ) → cls (negℤ (pos a) over d) ≤ 0#
 below-zero a d = ≤-trans (≤-of (neg-cls (pos a over d))) (le (cls (pos a over d) ▸ ∅) (λ p. 0ₑ ≼ p ⇒ λ h. ⊖ p ≼ 0ₑ by h) tt (not-below a d))
-  where
-    not-below : (a d : ℕ) → 0# ≤ cls (pos a over d)
-    not-below a d = Rattle.exact.proofs.Order.from-frac (whole (pos 0)) (pos a over d) (record { by = lib.Dec.le→leb (N._*_ 0 (suc (N._-_ d 1))) (N._*_ a 1) (omega arith) })
 
 one-above : 0# < num 1
 one-above = 0<num 1 (lit< tt)
@@ -142,5 +141,5 @@ unfolding computes
 one-limit = closed tt
 
 pub quotient-unit : {x y : Float} → Is x → Is y → 0# < # y → 0# ≤ # x → # x ≤ # y → Is (div binary64 x y) × (0# ≤ # div binary64 x y) × (# div binary64 x y ≤ 1#)
-quotient-unit {x} {y} i j p l h = rounds-between (quotient-rounded i j (above-≠ p) (ratio-times i j p)) short-one one-limit (0≤* l (reciprocal i j p .1))
+quotient-unit {x} {y} i j p l h = rounds-between (quotient-nearest i j (above-≠ p) (ratio-times i j p)) short-one one-limit (0≤* l (reciprocal i j p .1))
     (≤-trans (le (# x ▸ # y ▸ cls (inverse (val y)) ▸ ∅) (λ x y i. x ≼ y ⇒ λ h. 0ₑ ≼ i ⇒ λ k. x ⊗ i ≼ y ⊗ i by h ⊠ k) tt h (reciprocal i j p .1)) (≤-of (reciprocal i j p .0)))

@@ -1,20 +1,16 @@
 -- What f64 can hold, in ticks: whole numbers of 53 binary digits and zeros after them.
 use mathlib.Core.Path.{_≡_, refl, sym, ap, _∙_, subst}
 use mathlib.Core.Logic.{_⊎_, inl, inr}
-use mathlib.Core.Bool.{Bool, _&&_}
-use Prim.Native.Nat.{ℕ, zero, suc, _+_, _-_, _*_, _%_, _^_, _≤_, _<_}
-use native.Mathlib.Nat.{lt-of-le-of-lt, mul-assoc, mul-comm, mul-one, mul-sub, pow-succ', eq-of-mul-eq-mul-right, le-of-mul-le-mul-right, eq-zero-or-pos, not-le-of-lt, suc-ne-zero}
+use mathlib.Core.Bool.{Bool}
+use Prim.Native.Nat.{ℕ, zero, suc, _+_, _-_, _*_, _^_, _≤_, _<_}
+use native.Mathlib.Nat.{lt-of-le-of-lt, mul-assoc, mul-comm, mul-one, mul-sub, pow-succ', eq-of-mul-eq-mul-right, le-of-mul-le-mul-right, eq-zero-or-pos, not-le-of-lt}
 use native.Mathlib.Omega.{arith}
-use lib.Dec.{T, ltb, leb, eqb, ltb→lt, lit<}
+use lib.Dec.{T, lit<}
 use lib.Pow.{pow-add, pow-pos}
 use lib.IntN.{ℤ, pos, negsuc}
-use lib.Ieee.{Float, nan, inf, fin, binary64, low, up, down, fits}
-use lib.Ieee.Fits.{and-l, and-r}
+use lib.Ieee.{Float, nan, inf, fin, binary64, low, up, down}
 use lib.Ieee.Scale.{finite}
-use Rattle.rounding.proofs.Ticks.{shift, shorter, fit-parts, size, has-value}
-
-abbrev Fits : Float → Type 0
-Fits x = T (fits binary64 x)
+use Rattle.rounding.proofs.Ticks.{Fits, shift, shorter, fit-parts, size, has-value}
 
 -- w is q * 2 ^ j with a q of 53 digits
 pub record Digits (w : ℕ) : Type 0 where

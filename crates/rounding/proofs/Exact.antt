@@ -19,18 +19,18 @@ use lib.Ieee.Fits.{round-fits}
 use lib.Ieee.Order.{round-mono}
 use Rattle.exact.specs.Fraction.{_over_, whole, part}
 use Rattle.exact.proofs.Ring.{con, _⊕_, _⊗_, ⊖_, _⊝_}
-use Rattle.exact.proofs.Rational.{ℚ, cls, _+_, _*_, neg, _-_, ∅, _▸_, _≐_, ring}
+use Rattle.exact.proofs.Rational.{ℚ, cls, _+_, _*_, neg, _-_, ∅, _▸_, _≐_, ring, whole-*, whole-neg}
 use Rattle.exact.proofs.Order.{_≤_, number, _⊞_, _⊠_, _≼_, _by_, _⇒_, le}
-use Rattle.exact.proofs.Within.{0#, 1#, 0ₑ, 1ₑ, num, 2⁻, computes, closed, ≤-trans, ≤-of, ≤-antisym, 0≤num, 0≤*, cancel, _within_, within-≤, within-at, within-*}
+use Rattle.exact.proofs.Within.{0#, 1#, 0ₑ, 1ₑ, num, 2⁻, computes, closed, ≤-trans, ≤-of, ≤-antisym, 0≤num, 0≤*, cancel, _within_, within-≤, within-at, within-*, num-≤, num-*, num-+, within-self}
+use Rattle.exact.proofs.Numbers.{≤-num, abs-is, abs-same, nonneg-whole, as-over, 0<num}
 use Rattle.rounding.specs.Value.{signed, L, ticks, Is}
 use Rattle.rounding.specs.Theorems.{limit}
-use Rattle.rounding.proofs.Fractions.{W, W-*, W-neg, num-≤, ≤-num, num-*, num-+, abs-within, abs-same, nonneg-W, over-is, 0<num, within-self}
 use Rattle.rounding.proofs.Signs.{signed-is, signed-scale, abs-scale}
 use Rattle.rounding.proofs.Ticks.{L-pos, sign, size, ticks-are, size-below}
 use Rattle.rounding.proofs.Digits.{Digits, float-digits, sterbenz, half}
-use Rattle.rounding.proofs.Values.{#_, of-value, neg-value, neg-is, Λ, 0<Λ, of-ticks}
-use Rattle.rounding.proofs.Rounds.{Rounds, Exact, own, exact-rounds, exact-at, Rounded, rounds-normal}
-use Rattle.rounding.proofs.Operations.{rounds-≤, rounds-at, sum-rounded, difference-rounded, product-rounded, quotient-rounded, product-normal}
+use Rattle.rounding.proofs.Values.{W, #_, neg-value, neg-is, Λ, 0<Λ, of-ticks}
+use Rattle.rounding.proofs.Rounds.{Rounds, Exact, own, value-exact, exact-rounds, exact-at, Nearest, rounds-normal}
+use Rattle.rounding.proofs.Operations.{rounds-≤, rounds-at, sum-nearest, difference-nearest, product-nearest, quotient-nearest, product-normal}
 use Rattle.rounding.proofs.Compare.{le-yes}
 
 -- t is `digits * 2 ^ zeros` ticks: of 53 digits, and below 2 ^ 1024
@@ -41,19 +41,18 @@ pub record Short (t : ℚ) : Type 0 where
   pub small : N._<_ (natAbs digits) (2 ^ 53)
   pub below : N._<_ (N._*_ (natAbs digits) (2 ^ zeros)) (N._*_ (2 ^ 1024) L)
 
-module _ {r : Float} {t : ℚ} (k : Rounded r t) (h : Short t) where
+module _ {r : Float} {t : ℚ} (k : Nearest r t) (h : Short t) where
   same-ticks : N._*_ (k .top) L ≡ N._*_ (N._*_ (natAbs (h .digits)) (2 ^ h .zeros)) (k .bottom)
   same-ticks = sym (ap (λ (n : ℕ). N._*_ n L) (signed-is (k .sign) (k .top) .1)) ∙ sym (abs-scale (signed (k .sign) (k .top)) L)
       ∙ abs-same (signed (k .sign) (k .top) *ℤ pos L) (h .digits *ℤ pos (2 ^ h .zeros) *ℤ pos (k .bottom))
-      (W-* (signed (k .sign) (k .top)) (pos L) ∙ ap (λ w. w * Λ) (k .value) ∙ ring (t ▸ num (k .bottom) ▸ Λ ▸ ∅) (λ t d Λ. t ⊗ d ⊗ Λ ≐ t ⊗ Λ ⊗ d) tt
-      ∙ ap (λ w. w * num (k .bottom)) (sym (h .is)) ∙ sym (W-* (h .digits *ℤ pos (2 ^ h .zeros)) (pos (k .bottom))))
+      (whole-* (signed (k .sign) (k .top)) (pos L) ∙ ap (λ w. w * Λ) (k .value) ∙ ring (t ▸ num (k .bottom) ▸ Λ ▸ ∅) (λ t d Λ. t ⊗ d ⊗ Λ ≐ t ⊗ Λ ⊗ d) tt
+      ∙ ap (λ w. w * num (k .bottom)) (sym (h .is)) ∙ sym (whole-* (h .digits *ℤ pos (2 ^ h .zeros)) (pos (k .bottom))))
       ∙ abs-scale (h .digits *ℤ pos (2 ^ h .zeros)) (k .bottom) ∙ ap (λ (n : ℕ). N._*_ n (k .bottom)) (abs-scale (h .digits) (2 ^ h .zeros))
 
   pub rounds-exact : Exact r t
   unfolding L
-  rounds-exact =
-      let v = of-value (round binary64 (k .sign) (k .top) (k .bottom)) (k .sign) (k .top) (k .bottom) (k .above) (round-exact binary64 (k .sign) (k .top) (k .bottom) (natAbs (h .digits)) (h .zeros) (k .above) (h .small) (h .below) same-ticks) in
-      subst (λ (x : Float). Exact x t) (sym (k .is)) (record { is = record { fit = round-fits binary64 (k .sign) (k .top) (k .bottom); fin = v .0 }; value = v .1 ∙ over-is (signed (k .sign) (k .top)) (k .bottom) (k .above) (k .value) })
+  rounds-exact = subst (λ (x : Float). Exact x t) (sym (k .is)) (exact-at (as-over (signed (k .sign) (k .top)) (k .bottom) (k .above) (k .value))
+      (value-exact _ (k .sign) (k .top) (k .bottom) (k .above) (round-fits binary64 (k .sign) (k .top) (k .bottom)) (round-exact binary64 (k .sign) (k .top) (k .bottom) (natAbs (h .digits)) (h .zeros) (k .above) (h .small) (h .below) same-ticks)))
 
 -- ---- `round` keeps the order
 
@@ -61,16 +60,16 @@ pub short-zero : Short 0#
 short-zero = record { digits = pos 0; zeros = 0; is = ring (Λ ▸ ∅) (λ Λ. 0ₑ ≐ 0ₑ ⊗ Λ) tt; small = lit< tt; below = mul-pos (pow-pos 1024) L-pos }
 
 -- what f64 holds, as a result of `round`
-held : {b : ℚ} (h : Short b) → 0# ≤ b → (x : Float) × (k : Rounded x b) × (k .sign ≡ false)
+held : {b : ℚ} (h : Short b) → 0# ≤ b → (x : Float) × (k : Nearest x b) × (k .sign ≡ false)
 held {b} h p =
     let z = h .digits *ℤ pos (2 ^ h .zeros) in
-    let e = pos-natAbs z (nonneg-W z (subst (λ w. 0# ≤ w) (sym (h .is)) (0≤* p (0≤num L)))) in
+    let e = pos-natAbs z (nonneg-whole z (subst (λ w. 0# ≤ w) (sym (h .is)) (0≤* p (0≤num L)))) in
     (round binary64 false (natAbs z) L, record { sign = false; top = natAbs z; bottom = L; above = L-pos; is = refl; value = ap W e ∙ h .is }, refl)
 
-unsigned : {r : Float} {t : ℚ} (k : Rounded r t) → k .sign ≡ false → (r ≡ round binary64 false (k .top) (k .bottom)) × (num (k .top) ≡ t * num (k .bottom))
+unsigned : {r : Float} {t : ℚ} (k : Nearest r t) → k .sign ≡ false → (r ≡ round binary64 false (k .top) (k .bottom)) × (num (k .top) ≡ t * num (k .bottom))
 unsigned k e = (k .is ∙ ap (λ (s : Bool). round binary64 s (k .top) (k .bottom)) e, ap (λ (s : Bool). W (signed s (k .top))) (sym e) ∙ k .value)
 
-mono : {x y : Float} {s t : ℚ} (k : Rounded x s) (l : Rounded y t) → k .sign ≡ false → l .sign ≡ false → Is x → Is y → s ≤ t → # x ≤ # y
+mono : {x y : Float} {s t : ℚ} (k : Nearest x s) (l : Nearest y t) → k .sign ≡ false → l .sign ≡ false → Is x → Is y → s ≤ t → # x ≤ # y
 mono {x} {y} {s} {t} k l e f i j h =
     let u = unsigned k e in
     let v = unsigned l f in
@@ -81,19 +80,19 @@ mono {x} {y} {s} {t} k l e f i j h =
     (round-mono binary64 (k .top) (k .bottom) (l .top) (l .bottom) (k .above) (l .above) crossed))))
 
 -- 0 ≤ t, so t is 0 or `round` is handed the sign +
-upward : {r : Float} {t : ℚ} (k : Rounded r t) → 0# ≤ t → (t ≡ 0#) ⊎ (k .sign ≡ false)
+upward : {r : Float} {t : ℚ} (k : Nearest r t) → 0# ≤ t → (t ≡ 0#) ⊎ (k .sign ≡ false)
 upward {r} {t} k h = go (k .sign) (k .value)
   where
     go : (s : Bool) → W (signed s (k .top)) ≡ t * num (k .bottom) → (t ≡ 0#) ⊎ (s ≡ false)
     go false e = inr refl
-    go true e = inl (≤-antisym (cancel (0<num (k .bottom) (k .above)) (≤-trans (≤-of (sym e ∙ W-neg (pos (k .top)))) (le (num (k .top) ▸ num (k .bottom) ▸ ∅) (λ n d. 0ₑ ≼ n ⇒ λ h. ⊖ n ≼ 0ₑ ⊗ d by h) tt (0≤num (k .top))))) h)
+    go true e = inl (≤-antisym (cancel (0<num (k .bottom) (k .above)) (≤-trans (≤-of (sym e ∙ whole-neg (pos (k .top)))) (le (num (k .top) ▸ num (k .bottom) ▸ ∅) (λ n d. 0ₑ ≼ n ⇒ λ h. ⊖ n ≼ 0ₑ ⊗ d by h) tt (0≤num (k .top))))) h)
 
 normal : 2⁻ 1022 ≤ cls limit
 unfolding computes
 normal = closed tt
 
 -- 0 ≤ t ≤ b for a b that f64 holds
-pub rounds-between : {r : Float} {t b : ℚ} → Rounded r t → Short b → b ≤ cls limit → 0# ≤ t → t ≤ b → Is r × (0# ≤ # r) × (# r ≤ b)
+pub rounds-between : {r : Float} {t b : ℚ} → Nearest r t → Short b → b ≤ cls limit → 0# ≤ t → t ≤ b → Is r × (0# ≤ # r) × (# r ≤ b)
 rounds-between {r} {t} {b} k h l p q = elim (upward k p) [
   | inl z ↦ (i, ≤-of (sym (zero z)), ≤-trans (≤-of (zero z)) (≤-trans p q))
   | inr e ↦
@@ -121,57 +120,57 @@ short-of s w d h e = record {
   below = subst (λ (n : ℕ). N._<_ n (N._*_ (2 ^ 1024) L)) (d .is ∙ ap (λ (n : ℕ). N._*_ n (2 ^ d .j)) (sym (signed-is s (d .q) .1))) h;
 }
 
-in-range : {x : Float} → Is x → N._<_ (size x) (N._*_ (2 ^ 1024) L)
+size-in-range : {x : Float} → Is x → N._<_ (size x) (N._*_ (2 ^ 1024) L)
 unfolding L
-in-range {x} i = size-below x (i .fit) (i .fin)
+size-in-range {x} i = size-below x (i .fit) (i .fin)
 
 of-size : {x : Float} → Is x → W (signed (sign x) (size x)) ≡ # x * Λ
 of-size {x} i = ap W (sym (ticks-are x)) ∙ of-ticks i
 
 pub float-short : {x : Float} → Is x → Short (# x)
-float-short {x} i = short-of (sign x) (size x) (float-digits x (i .fit) (i .fin)) (in-range i) (of-size i)
+float-short {x} i = short-of (sign x) (size x) (float-digits x (i .fit) (i .fin)) (size-in-range i) (of-size i)
 
 -- ---- an operation whose exact result f64 holds gives it
 
 module _ {x y : Float} (i : Is x) (j : Is y) where
   pub sum-exact : Short (# x + # y) → Exact (add binary64 x y) (# x + # y)
-  sum-exact h = rounds-exact (sum-rounded i j .0) h
+  sum-exact h = rounds-exact (sum-nearest i j .0) h
 
   pub difference-exact : Short (# x - # y) → Exact (sub binary64 x y) (# x - # y)
-  difference-exact h = rounds-exact (difference-rounded i j .0) h
+  difference-exact h = rounds-exact (difference-nearest i j .0) h
 
   pub product-exact : Short (# x * # y) → Exact (mul binary64 x y) (# x * # y)
-  product-exact h = rounds-exact (product-rounded i j) h
+  product-exact h = rounds-exact (product-nearest i j) h
 
   pub quotient-exact : {q : ℚ} → (# y ≡ 0# → ⊥) → q * # y ≡ # x → Short q → Exact (div binary64 x y) q
-  quotient-exact y≠0 e h = rounds-exact (quotient-rounded i j y≠0 e) h
+  quotient-exact y≠0 e h = rounds-exact (quotient-nearest i j y≠0 e) h
 
 pub negated-exact : {x : Float} → Is x → Exact (F.neg x) (neg (# x))
 negated-exact {x} i = record { is = neg-is i; value = neg-value x }
 
 -- by the exact result t, which is s
-exact-by : {r : Float} {s t : ℚ} → Rounded r t → t ≡ s → Short s → Exact r s
+exact-by : {r : Float} {s t : ℚ} → Nearest r t → t ≡ s → Short s → Exact r s
 exact-by k e h = exact-at e (rounds-exact k (subst Short (sym e) h))
 
 module _ {x c : Float} (i : Is x) (j : Is c) where
   pub times-one : # c ≡ 1# → Exact (mul binary64 x c) (# x)
-  times-one e = exact-by (product-rounded i j) (ap (λ z. # x * z) e ∙ ring (# x ▸ ∅) (λ x. x ⊗ 1ₑ ≐ x) tt) (float-short i)
+  times-one e = exact-by (product-nearest i j) (ap (λ z. # x * z) e ∙ ring (# x ▸ ∅) (λ x. x ⊗ 1ₑ ≐ x) tt) (float-short i)
 
   pub times-minus-one : # c ≡ neg 1# → Exact (mul binary64 x c) (neg (# x))
-  times-minus-one e = exact-by (product-rounded i j) (ap (λ z. # x * z) e ∙ ring (# x ▸ ∅) (λ x. x ⊗ ⊖ 1ₑ ≐ ⊖ x) tt) (subst Short (neg-value x) (float-short (neg-is i)))
+  times-minus-one e = exact-by (product-nearest i j) (ap (λ z. # x * z) e ∙ ring (# x ▸ ∅) (λ x. x ⊗ ⊖ 1ₑ ≐ ⊖ x) tt) (subst Short (neg-value x) (float-short (neg-is i)))
 
   pub plus-zero : # c ≡ 0# → Exact (add binary64 x c) (# x)
-  plus-zero e = exact-by (sum-rounded i j .0) (ap (λ z. # x + z) e ∙ ring (# x ▸ ∅) (λ x. x ⊕ 0ₑ ≐ x) tt) (float-short i)
+  plus-zero e = exact-by (sum-nearest i j .0) (ap (λ z. # x + z) e ∙ ring (# x ▸ ∅) (λ x. x ⊕ 0ₑ ≐ x) tt) (float-short i)
 
   pub minus-zero : # c ≡ 0# → Exact (sub binary64 x c) (# x)
-  minus-zero e = exact-by (difference-rounded i j .0) (ap (λ z. # x - z) e ∙ ring (# x ▸ ∅) (λ x. x ⊝ 0ₑ ≐ x) tt) (float-short i)
+  minus-zero e = exact-by (difference-nearest i j .0) (ap (λ z. # x - z) e ∙ ring (# x ▸ ∅) (λ x. x ⊝ 0ₑ ≐ x) tt) (float-short i)
 
 -- ---- near neighbours: y / 2 ≤ x ≤ 2 y
 
 -- the ticks of what is not below 0
 upward-size : {x : Float} → Is x → 0# ≤ # x → num (size x) ≡ # x * Λ
 unfolding size
-upward-size {x} i h = ap W (pos-natAbs (ticks x) (nonneg-W (ticks x) (subst (λ z. 0# ≤ z) (sym (of-ticks i)) (0≤* h (0≤num L))))) ∙ of-ticks i
+upward-size {x} i h = ap W (pos-natAbs (ticks x) (nonneg-whole (ticks x) (subst (λ z. 0# ≤ z) (sym (of-ticks i)) (0≤* h (0≤num L))))) ∙ of-ticks i
 
 num-sub : (a b : ℕ) → N._≤_ b a → num (N._-_ a b) ≡ num a - num b
 num-sub a b h = ring (num (N._-_ a b) ▸ num b ▸ ∅) (λ d b. d ≐ d ⊕ b ⊝ b) tt ∙ ap (λ z. z - num b) (sym (num-+ (N._-_ a b) b) ∙ ap (λ (n : ℕ). num n) (native.Mathlib.Nat.sub-add-cancel h))
@@ -203,11 +202,11 @@ module _ {x y : Float} (i : Is x) (j : Is y) (h : # y * 2⁻ 1 ≤ # x) (k : # x
   difference-short = elim (eq-zero-or-pos (N._-_ (size x) (size y))) [
     | inl z ↦
         let l : N._≤_ (size x) (size y) = omega arith in
-        short-of true (N._-_ (size y) (size x)) (sterbenz (size x) (size y) (float-digits x (i .fit) (i .fin)) (float-digits y (j .fit) (j .fin)) l y≤2x) (lt-of-le-of-lt (less (size y) (size x)) (in-range j))
-        (W-neg (pos (N._-_ (size y) (size x))) ∙ ap neg (num-sub (size y) (size x) l ∙ ap₂ (λ a b. a - b) Y X) ∙ ring (# x ▸ # y ▸ Λ ▸ ∅) (λ x y Λ. ⊖ (y ⊗ Λ ⊝ x ⊗ Λ) ≐ (x ⊝ y) ⊗ Λ) tt)
+        short-of true (N._-_ (size y) (size x)) (sterbenz (size x) (size y) (float-digits x (i .fit) (i .fin)) (float-digits y (j .fit) (j .fin)) l y≤2x) (lt-of-le-of-lt (less (size y) (size x)) (size-in-range j))
+        (whole-neg (pos (N._-_ (size y) (size x))) ∙ ap neg (num-sub (size y) (size x) l ∙ ap₂ (λ a b. a - b) Y X) ∙ ring (# x ▸ # y ▸ Λ ▸ ∅) (λ x y Λ. ⊖ (y ⊗ Λ ⊝ x ⊗ Λ) ≐ (x ⊝ y) ⊗ Λ) tt)
     | inr p ↦
         let l : N._≤_ (size y) (size x) = omega arith in
-        short-of false (N._-_ (size x) (size y)) (sterbenz (size y) (size x) (float-digits y (j .fit) (j .fin)) (float-digits x (i .fit) (i .fin)) l x≤2y) (lt-of-le-of-lt (less (size x) (size y)) (in-range i))
+        short-of false (N._-_ (size x) (size y)) (sterbenz (size y) (size x) (float-digits y (j .fit) (j .fin)) (float-digits x (i .fit) (i .fin)) l x≤2y) (lt-of-le-of-lt (less (size x) (size y)) (size-in-range i))
         (num-sub (size x) (size y) l ∙ ap₂ (λ a b. a - b) X Y ∙ ring (# x ▸ # y ▸ Λ ▸ ∅) (λ x y Λ. x ⊗ Λ ⊝ y ⊗ Λ ≐ (x ⊝ y) ⊗ Λ) tt)
   ]
     where
@@ -228,12 +227,12 @@ module _ {x h : Float} (i : Is x) (j : Is h) (e : # h ≡ 2⁻ 1) where
   halves : # x * # h ≡ # x * 2⁻ 1
   halves = ap (λ z. # x * z) e
 
-  half-exact : N._≤_ (2 ^ 53) (size x) → Exact (mul binary64 x h) (# x * 2⁻ 1)
-  half-exact l =
+  half-of-size : N._≤_ (2 ^ 53) (size x) → Exact (mul binary64 x h) (# x * 2⁻ 1)
+  half-of-size l =
       let v = half (size x) (float-digits x (i .fit) (i .fin)) l in
-      exact-by (product-rounded i j) halves (short-of (sign x) (v .0) (v .2) (lt-of-le-of-lt (less (size x) (v .0) (v .1)) (in-range i))
+      exact-by (product-nearest i j) halves (short-of (sign x) (v .0) (v .2) (lt-of-le-of-lt (less (size x) (v .0) (v .1)) (size-in-range i))
       (ring (W (signed (sign x) (v .0)) ▸ ∅) (λ v. v ≐ v ⊗ con (whole (pos 2)) ⊗ con (part 1)) tt
-      ∙ ap (λ z. z * 2⁻ 1) (sym (W-* (signed (sign x) (v .0)) (pos 2)) ∙ ap W (signed-scale (sign x) (v .0) 2 ∙ ap (signed (sign x)) (sym (v .1))) ∙ of-size i) ∙ ring (# x ▸ Λ ▸ ∅) (λ x Λ. x ⊗ Λ ⊗ con (part 1) ≐ x ⊗ con (part 1) ⊗ Λ) tt))
+      ∙ ap (λ z. z * 2⁻ 1) (sym (whole-* (signed (sign x) (v .0)) (pos 2)) ∙ ap W (signed-scale (sign x) (v .0) 2 ∙ ap (signed (sign x)) (sym (v .1))) ∙ of-size i) ∙ ring (# x ▸ Λ ▸ ∅) (λ x Λ. x ⊗ Λ ⊗ con (part 1) ≐ x ⊗ con (part 1) ⊗ Λ) tt))
     where
       less : (a b : ℕ) → a ≡ N._*_ b 2 → N._≤_ b a
       less a b e = omega arith
@@ -241,21 +240,21 @@ module _ {x h : Float} (i : Is x) (j : Is h) (e : # h ≡ 2⁻ 1) where
   -- x times Λ, either sign
   size-within : # x * Λ within num (size x)
   unfolding size
-  size-within = within-at (of-ticks i) (abs-within (ticks x))
+  size-within = within-at (of-ticks i) (abs-is (ticks x))
 
   -- half of a number from 2 ^ -1021 up is exact
   pub half-of-large : 2⁻ 1021 ≤ # x → Exact (mul binary64 x h) (# x * 2⁻ 1)
-  half-of-large l = half-exact (≤-num _ _ (≤-trans (≤-of turning) (≤-trans (le (# x ▸ Λ ▸ ∅) (λ x Λ. con (part 1021) ≼ x ⇒ λ l. 0ₑ ≼ Λ ⇒ λ p. con (part 1021) ⊗ Λ ≼ x ⊗ Λ by l ⊠ p) tt l (0≤num L)) (size-within .up))))
+  half-of-large l = half-of-size (≤-num _ _ (≤-trans (≤-of turning) (≤-trans (le (# x ▸ Λ ▸ ∅) (λ x Λ. con (part 1021) ≼ x ⇒ λ l. 0ₑ ≼ Λ ⇒ λ p. con (part 1021) ⊗ Λ ≼ x ⊗ Λ by l ⊠ p) tt l (0≤num L)) (size-within .up))))
 
   pub half-of-low : 2⁻ 1021 ≤ neg (# x) → Exact (mul binary64 x h) (# x * 2⁻ 1)
-  half-of-low l = half-exact (≤-num _ _ (≤-trans (≤-of turning) (≤-trans (le (# x ▸ Λ ▸ ∅) (λ x Λ. con (part 1021) ≼ ⊖ x ⇒ λ l. 0ₑ ≼ Λ ⇒ λ p. con (part 1021) ⊗ Λ ≼ ⊖ (x ⊗ Λ) by l ⊠ p) tt l (0≤num L)) (size-within .down))))
+  half-of-low l = half-of-size (≤-num _ _ (≤-trans (≤-of turning) (≤-trans (le (# x ▸ Λ ▸ ∅) (λ x Λ. con (part 1021) ≼ ⊖ x ⇒ λ l. 0ₑ ≼ Λ ⇒ λ p. con (part 1021) ⊗ Λ ≼ ⊖ (x ⊗ Λ) by l ⊠ p) tt l (0≤num L)) (size-within .down))))
 
   -- and of any number off by half the smallest positive number at most
   pub half-rounds : Rounds (mul binary64 x h) (# x * 2⁻ 1) (2⁻ 1075)
   half-rounds = elim (eq-zero-or-pos (N._-_ (2 ^ 53) (size x))) [
-    | inl z ↦ rounds-≤ (exact-rounds (half-exact (omega arith))) (le ∅ (0ₑ ≼ con (part 1075) by number (part 1075)) tt)
+    | inl z ↦ rounds-≤ (exact-rounds (half-of-size (omega arith))) (le ∅ (0ₑ ≼ con (part 1075) by number (part 1075)) tt)
     | inr p ↦
-        let w : # x * Λ within 2⁻ 1021 * Λ = within-≤ size-within (≤-trans (num-≤ {m = size x} {n = 2 ^ 53} (omega arith)) (≤-of turning)) in
+        let w : # x * Λ within 2⁻ 1021 * Λ = within-≤ size-within (≤-trans (num-≤ {a = size x} {b = 2 ^ 53} (omega arith)) (≤-of turning)) in
         let v : # x within 2⁻ 1021 = record { up = cancel 0<Λ (w .up); down = cancel 0<Λ (≤-trans (≤-of (ring (# x ▸ Λ ▸ ∅) (λ x Λ. ⊖ x ⊗ Λ ≐ ⊖ (x ⊗ Λ)) tt)) (w .down)) } in
         rounds-at halves (rounds-≤ (product-normal i j {m = 2⁻ 1022} (within-at (sym halves) (within-≤ (within-* v (within-self (le ∅ (0ₑ ≼ con (part 1) by number (part 1)) tt))) (≤-of (ring ∅ (con (part 1021) ⊗ con (part 1) ≐ con (part 1022)) tt)))) (≤-of refl) normal)
         (≤-of (ring ∅ (con (part 1022) ⊗ con (part 53) ≐ con (part 1075)) tt)))

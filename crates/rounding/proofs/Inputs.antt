@@ -8,16 +8,13 @@ use native.Mathlib.Omega.{arith}
 use lib.Dec.{T, eqb}
 use lib.Pow.{pow-pos}
 use lib.IntN.{pos, negℤ, _+ℤ_}
-use lib.Ieee.{Float, nan, inf, fin, binary64, low, up, down, unlike, round, sum, add, mul, div, fits}
+use lib.Ieee.{Float, nan, inf, fin, binary64, low, up, down, unlike, round, sum, add, mul, div}
 use lib.Ieee.Fits.{down-pos}
 use lib.Ieee.Scale.{finite, round-same}
 use borrow.Author.Tests.{lt-ltb, le-ltb}
 use borrow.Author.Differences.{sum-is, neg-is, same-in}
 use Rattle.rounding.specs.Value.{signed, L, ticks}
-use Rattle.rounding.proofs.Ticks.{sign, size, has-value, ticks-are}
-
-abbrev Fits : Float → Type 0
-Fits x = T (fits binary64 x)
+use Rattle.rounding.proofs.Ticks.{Fits, sign, size, has-value, ticks-are}
 
 -- ---- products
 cross : (a b l x y d e : ℕ) → a * l ≡ x * d → b * l ≡ y * e → a * b * (l * l) ≡ x * y * (d * e)

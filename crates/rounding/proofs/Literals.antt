@@ -1,27 +1,9 @@
 -- The literals 0.0, 0.5, 1.0 and 2.0, as code has them: bit patterns.
-use mathlib.Core.Path.{_≡_, refl}
-use lib.IntN.{pos, negsuc}
-use lib.Ieee.{fin, binary64, fits, ofBits}
-use mathlib.Core.Bool.{false}
+use mathlib.Core.Path.{refl}
+use lib.Ieee.{binary64, fits, ofBits}
 use Rattle.exact.proofs.Within.{0#, 1#, num, 2⁻}
 use Rattle.rounding.proofs.Rounds.{Exact}
 use Rattle.rounding.proofs.Convert.{literal-exact}
-
-pub zero-is : ofBits binary64 0 ≡ fin false 0 (pos 0)
-unfolding ofBits
-zero-is = refl
-
-pub half-is : ofBits binary64 0x3fe0_0000_0000_0000 ≡ fin false 1 (negsuc 0)
-unfolding ofBits
-half-is = refl
-
-pub one-is : ofBits binary64 0x3ff0_0000_0000_0000 ≡ fin false 1 (pos 0)
-unfolding ofBits
-one-is = refl
-
-pub two-is : ofBits binary64 0x4000_0000_0000_0000 ≡ fin false 1 (pos 1)
-unfolding ofBits
-two-is = refl
 
 pub zero-exact : Exact (ofBits binary64 0) 0#
 unfolding ofBits fits

@@ -14,19 +14,19 @@ use lib.Ieee.{Float, nan, inf, fin, binary64, fits, unlike, add, sub, mul, div}
 use lib.Ieee.Fits.{nan-fits, inf-fits, round-fits}
 use Rattle.exact.specs.Fraction.{Frac, whole, part, inverse, _+ᶠ_}
 use Rattle.exact.proofs.Ring.{con, _⊕_, _⊗_, ⊖_, _⊝_}
-use Rattle.exact.proofs.Rational.{ℚ, cls, _+_, _*_, neg, _-_, ∅, _▸_, _≐_, ring}
+use Rattle.exact.proofs.Rational.{ℚ, cls, _+_, _*_, neg, _-_, ∅, _▸_, _≐_, ring, whole-+, whole-*, whole-neg}
 use Rattle.exact.proofs.Order.{_≤_, _<_, number, _⊠_, _≼_, _by_, _⇒_, le}
-use Rattle.exact.proofs.Within.{0#, 1#, 0ₑ, 1ₑ, num, 2⁻, ≤-trans, ≤-of, 0≤num, 0≤*, cancel, _within_, within-≤, within-*, _≈⟨_⟩_, near, apart, above, inverse-of, near-≤, near-at, near-trans, near-neg}
+use Rattle.exact.proofs.Within.{0#, 1#, 0ₑ, 1ₑ, num, 2⁻, ≤-trans, ≤-of, 0≤num, 0≤*, cancel, _within_, within-≤, within-*, _≈⟨_⟩_, near, apart, above, inverse-of, near-≤, near-at, near-trans, near-neg, near-+, num-≤, num-*, within-self, near-product, <-not}
+use Rattle.exact.proofs.Numbers.{nonneg-whole, 0<num, cancel-≡, ≤-of-<, above-of, above-by}
 use Rattle.std.specs.Floats.{sqrt}
 use Rattle.rounding.specs.Value.{signed, val, L, ticks, Is}
 use Rattle.rounding.specs.Theorems.{limit}
-use Rattle.rounding.proofs.Fractions.{W, W-+, W-*, W-neg, num-≤, num-*, nonneg-W, 0<num, cancel-≡, within-self, ≤-of-<, <-not, above-of, above-by}
 use Rattle.rounding.proofs.Signs.{signed-mul, signed-neg}
 use Rattle.rounding.proofs.Ticks.{L-pos, sign, size, ticks-are}
 use Rattle.rounding.proofs.Inputs.{mul-is, add-is, div-is}
 use Rattle.rounding.proofs.Root.{sqrt-near, Root-error}
-use Rattle.rounding.proofs.Values.{#_, neg-value, neg-is, Λ, 0<Λ, of-ticks}
-use Rattle.rounding.proofs.Rounds.{Rounds, Rounded, rounds-normal, rounds-whole, rounds-tiny}
+use Rattle.rounding.proofs.Values.{W, #_, neg-value, neg-is, Λ, 0<Λ, of-ticks}
+use Rattle.rounding.proofs.Rounds.{Rounds, Nearest, rounds-normal, rounds-whole, rounds-tiny}
 
 -- ---- Rounds
 
@@ -64,8 +64,8 @@ size-above {y} j h = elim (eq-zero-or-pos (size y)) [
 ]
 
 module _ {x y : Float} (i : Is x) (j : Is y) where
-  pub sum-rounded : (k : Rounded (add binary64 x y) (# x + # y)) × (k .bottom ≡ L)
-  sum-rounded =
+  pub sum-nearest : (k : Nearest (add binary64 x y) (# x + # y)) × (k .bottom ≡ L)
+  sum-nearest =
       let a = add-is x y (i .fit) (j .fit) (i .fin) (j .fin) in (
         record {
           sign = a .0;
@@ -73,26 +73,26 @@ module _ {x y : Float} (i : Is x) (j : Is y) where
           bottom = L;
           above = L-pos;
           is = a .2;
-          value = ap W (sym (a .3)) ∙ W-+ (ticks x) (ticks y) ∙ ap₂ (λ a b. a + b) (of-ticks i) (of-ticks j) ∙ ring (# x ▸ # y ▸ Λ ▸ ∅) (λ x y Λ. x ⊗ Λ ⊕ y ⊗ Λ ≐ (x ⊕ y) ⊗ Λ) tt;
+          value = ap W (sym (a .3)) ∙ whole-+ (ticks x) (ticks y) ∙ ap₂ (λ a b. a + b) (of-ticks i) (of-ticks j) ∙ ring (# x ▸ # y ▸ Λ ▸ ∅) (λ x y Λ. x ⊗ Λ ⊕ y ⊗ Λ ≐ (x ⊕ y) ⊗ Λ) tt;
         },
         refl,
       )
 
-  pub product-rounded : Rounded (mul binary64 x y) (# x * # y)
-  product-rounded = record {
+  pub product-nearest : Nearest (mul binary64 x y) (# x * # y)
+  product-nearest = record {
     sign = unlike (sign x) (sign y);
     top = N._*_ (size x) (size y);
     bottom = N._*_ L L;
     above = mul-pos L-pos L-pos;
     is = mul-is x y (i .fit) (j .fit) (i .fin) (j .fin);
-    value = ap W (sym (signed-mul (sign x) (sign y) (size x) (size y))) ∙ W-* (signed (sign x) (size x)) (signed (sign y) (size y))
+    value = ap W (sym (signed-mul (sign x) (sign y) (size x) (size y))) ∙ whole-* (signed (sign x) (size x)) (signed (sign y) (size y))
         ∙ ap₂ (λ a b. a * b) (ap W (sym (ticks-are x)) ∙ of-ticks i) (ap W (sym (ticks-are y)) ∙ of-ticks j)
         ∙ ring (# x ▸ # y ▸ Λ ▸ ∅) (λ x y Λ. x ⊗ Λ ⊗ (y ⊗ Λ) ≐ x ⊗ y ⊗ (Λ ⊗ Λ)) tt ∙ ap (λ z. # x * # y * z) (sym (num-* L L));
   }
 
   -- q is the exact quotient
-  pub quotient-rounded : {q : ℚ} → (# y ≡ 0# → ⊥) → q * # y ≡ # x → Rounded (div binary64 x y) q
-  quotient-rounded {q} y≠0 e = record {
+  pub quotient-nearest : {q : ℚ} → (# y ≡ 0# → ⊥) → q * # y ≡ # x → Nearest (div binary64 x y) q
+  quotient-nearest {q} y≠0 e = record {
     sign = unlike (sign x) (sign y);
     top = size x;
     bottom = size y;
@@ -106,31 +106,42 @@ module _ {x y : Float} (i : Is x) (j : Is y) where
 
       go : (s : Bool) → ticks y ≡ signed s (size y) → W (signed (unlike (sign x) s) (size x)) ≡ q * num (size y)
       go false f = ap (λ (b : Bool). W (signed b (size x))) (alike (sign x)) ∙ in-ticks ∙ ap (λ z. q * W z) f
-      go true f = ap W (ap (λ (b : Bool). signed b (size x)) (other (sign x)) ∙ signed-neg (sign x) (size x)) ∙ W-neg (signed (sign x) (size x)) ∙ ap neg (in-ticks ∙ ap (λ z. q * W z) f ∙ ap (λ z. q * z) (W-neg (pos (size y))))
+      go true f = ap W (ap (λ (b : Bool). signed b (size x)) (other (sign x)) ∙ signed-neg (sign x) (size x)) ∙ whole-neg (signed (sign x) (size x)) ∙ ap neg (in-ticks ∙ ap (λ z. q * W z) f ∙ ap (λ z. q * z) (whole-neg (pos (size y))))
           ∙ ring (q ▸ num (size y) ▸ ∅) (λ q y. ⊖ (q ⊗ ⊖ y) ≐ q ⊗ y) tt
 
-pub difference-rounded : {x y : Float} → Is x → Is y → (k : Rounded (sub binary64 x y) (# x - # y)) × (k .bottom ≡ L)
+pub difference-nearest : {x y : Float} → Is x → Is y → (k : Nearest (sub binary64 x y) (# x - # y)) × (k .bottom ≡ L)
 unfolding sub
-difference-rounded {x} {y} i j = subst (λ z. (k : Rounded (add binary64 x (F.neg y)) (# x + z)) × (k .bottom ≡ L)) (neg-value y) (sum-rounded i (neg-is j))
+difference-nearest {x} {y} i j = subst (λ z. (k : Nearest (add binary64 x (F.neg y)) (# x + z)) × (k .bottom ≡ L)) (neg-value y) (sum-nearest i (neg-is j))
 
 -- ---- the laws: m is the size of the exact result, or more
 
 module _ {x y : Float} (i : Is x) (j : Is y) {m : ℚ} where
   pub sum-rounds : # x + # y within m → m ≤ cls limit → Rounds (add binary64 x y) (# x + # y) (m * 2⁻ 53)
-  sum-rounds h l = let k = sum-rounded i j in rounds-whole (k .0) h (within-≤ h l) (k .1)
+  sum-rounds h l = let k = sum-nearest i j in rounds-whole (k .0) h (within-≤ h l) (k .1)
 
   pub difference-rounds : # x - # y within m → m ≤ cls limit → Rounds (sub binary64 x y) (# x - # y) (m * 2⁻ 53)
-  difference-rounds h l = let k = difference-rounded i j in rounds-whole (k .0) h (within-≤ h l) (k .1)
+  difference-rounds h l = let k = difference-nearest i j in rounds-whole (k .0) h (within-≤ h l) (k .1)
 
   pub product-rounds : # x * # y within m → m ≤ cls limit → Rounds (mul binary64 x y) (# x * # y) (m * 2⁻ 53 + 2⁻ 1075)
-  product-rounds h l = rounds-tiny (product-rounded i j) h l
+  product-rounds h l = rounds-tiny (product-nearest i j) h l
 
-  -- where m is a normal number the rounding alone
+  -- where m is a normal number, the rounding alone
   pub product-normal : # x * # y within m → 2⁻ 1022 ≤ m → m ≤ cls limit → Rounds (mul binary64 x y) (# x * # y) (m * 2⁻ 53)
-  product-normal h n l = rounds-normal (product-rounded i j) h (within-≤ h l) n
+  product-normal h n l = rounds-normal (product-nearest i j) h (within-≤ h l) n
 
   pub quotient-rounds : {q : ℚ} → (# y ≡ 0# → ⊥) → q * # y ≡ # x → q within m → m ≤ cls limit → Rounds (div binary64 x y) q (m * 2⁻ 53 + 2⁻ 1075)
-  quotient-rounds y≠0 e h l = rounds-tiny (quotient-rounded i j y≠0 e) h l
+  quotient-rounds y≠0 e h l = rounds-tiny (quotient-nearest i j y≠0 e) h l
+
+-- the same for floats that stand for s and t: the errors d and e come on top
+module _ {x y : Float} {s t d e : ℚ} (p : Rounds x s d) (q : Rounds y t e) {m : ℚ} where
+  pub sum-of : # x + # y within m → m ≤ cls limit → Rounds (add binary64 x y) (s + t) (m * 2⁻ 53 + (d + e))
+  sum-of h l = rounds-then (sum-rounds (p .is) (q .is) h l) (near-+ (p .near) (q .near))
+
+  pub difference-of : # x - # y within m → m ≤ cls limit → Rounds (sub binary64 x y) (s - t) (m * 2⁻ 53 + (d + e))
+  difference-of h l = rounds-then (difference-rounds (p .is) (q .is) h l) (near-+ (p .near) (near-neg (q .near)))
+
+  pub product-of : {a b : ℚ} → # x * # y within m → 2⁻ 1022 ≤ m → m ≤ cls limit → # x within a → t within b → Rounds (mul binary64 x y) (s * t) (m * 2⁻ 53 + (a * e + d * b))
+  product-of h n l u v = rounds-then (product-normal (p .is) (q .is) h n l) (near-product (p .near) (q .near) u v)
 
 -- ---- a quotient by what is above 0
 
@@ -175,7 +186,7 @@ sqrt-fits (fin s zero e) f = f
 sqrt-fits (fin true (suc m) e) f = nan-fits binary64
 sqrt-fits (fin false (suc m) e) f = round-fits binary64 false _ _
 
--- the share of x that the square of a rounded root may be off by: 2 ^ -52 of two roundings of 2 ^ -53 each, and 2 ^ -92 for their product and the digits that the root leaves out
+-- the share of x that the square of a rounded root may be off by: (1 + δ)² for a rounding δ of 2 ^ -53 has 2 δ = 2 ^ -52; δ² and the digits that the root leaves out are within 2 ^ -92
 abbrev pub root-share : Frac
 root-share = part 52 +ᶠ part 92
 
@@ -207,7 +218,7 @@ module _ (s x : ℚ) (k n : ℕ) (S : num k ≡ s * Λ) (X : num n ≡ x * Λ) w
 pub root-rounds : {x : Float} → Is x → 0# ≤ # x → Is (sqrt binary64 x) × (0# ≤ # sqrt binary64 x) × (# sqrt binary64 x * # sqrt binary64 x ≈⟨ # x * cls root-share ⟩ # x)
 root-rounds {x} i h =
     let r = sqrt binary64 x in
-    let X = pos-natAbs (ticks x) (nonneg-W (ticks x) (subst (λ z. 0# ≤ z) (sym (of-ticks i)) (0≤* h (0≤num L)))) in
+    let X = pos-natAbs (ticks x) (nonneg-whole (ticks x) (subst (λ z. 0# ≤ z) (sym (of-ticks i)) (0≤* h (0≤num L)))) in
     let q = sqrt-near x (natAbs (ticks x)) (i .fit) (i .fin) (sym X) in
     let j : Is r = record { fit = sqrt-fits x (i .fit); fin = q .1 } in
     let S : num (q .0) ≡ # r * Λ = ap W (sym (q .2)) ∙ of-ticks j in

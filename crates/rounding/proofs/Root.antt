@@ -62,7 +62,7 @@ scaled : (a d x : ℕ) → 0 < d → a * 2 ^ 1074 ≡ x * d → a * 2 ^ 4542 / d
 scaled a d x D e =
     ap (λ (k : ℕ). k / d) (sym (mul-assoc a (2 ^ 1074) (2 ^ 3468)) ∙ ap (λ (k : ℕ). k * 2 ^ 3468) e ∙ mul-right-comm x d (2 ^ 3468)) ∙ mul-div-cancel (x * 2 ^ 3468) D
 
-pub sqrt-is : (x : Float) → T (fits binary64 x) → T (finite x) → sign x ≡ false → 0 < size x → sqrt binary64 x ≡ round binary64 false (rootTwice (size x * 2 ^ 3468)) (2 ^ 2272)
+sqrt-is : (x : Float) → T (fits binary64 x) → T (finite x) → sign x ≡ false → 0 < size x → sqrt binary64 x ≡ round binary64 false (rootTwice (size x * 2 ^ 3468)) (2 ^ 2272)
 unfolding sqrt
 sqrt-is nan f p s z = absurd p
 sqrt-is (inf t) f p s z = absurd p
@@ -94,14 +94,14 @@ uncross : (g d v : ℕ) → 0 < d → Root-error (g * d) (v * (d * d)) → Root-
 uncross g d v P h = (le-of-mul-le-mul-right {k = d * d} (omega (arith, h .0)) (mul-pos P P), le-of-mul-le-mul-right {k = d * d} (omega (arith, h .1)) (mul-pos P P))
 
 -- l is 2 ^ 1074, d is 2 ^ 1198, n is x * 2 ^ 3468; 4 * n is x * l * (d * d)
-core : (x l d n t g : ℕ) → 4 * n ≡ x * l * (d * d) → 0 < x → 0 < d → (2 ^ 120 * d + 2) * (2 ^ 120 * d + 2) ≤ l * (d * d) → Rough t n → Near (2 ^ 52) t d g → (d ≤ t) × Root-error g (x * l)
+core : (x l d n t g : ℕ) → 4 * n ≡ x * l * (d * d) → 0 < x → 0 < d → (2 ^ 120 * d + 2) * (2 ^ 120 * d + 2) ≤ l * (d * d) → Rough t n → Near (2 ^ 52) t d g → Root-error g (x * l)
 core x l d n t g e X P B r N =
     let lo : l * (d * d) ≤ 4 * n = omega (arith, mul-le-mul-right (l * (d * d)) X) in
     let T : 2 ^ 120 * d ≤ t = large t (4 * n) (2 ^ 120 * d) (r .1) (le-trans B lo) in
     let a : 2 ^ 53 * (g * d) ≤ 2 ^ 53 * t + t = omega (arith, N .0) in
     let b : 2 ^ 53 * t ≤ 2 ^ 53 * (g * d) + t = omega (arith, N .1) in
     let q = squares (g * d) t (4 * n) (omega arith) (a, b) r in
-    (omega arith, uncross g d (x * l) P (subst (λ (k : ℕ). Root-error (g * d) k) e q))
+    uncross g d (x * l) P (subst (λ (k : ℕ). Root-error (g * d) k) e q)
 
 upper : (t n b : ℕ) → t * t ≤ 4 * n + 4 * t + 4 → n < b * b → t < 4 * b + 8
 upper t n b r h = lt-of-not-le (λ (g : 4 * b + 8 ≤ t). omega (arith, mul-le-mul-right t g, mul-le-mul-right b g))
@@ -116,7 +116,7 @@ four-n : (x a b c : ℕ) → 4 * a ≡ b * c → 4 * (x * a) ≡ x * b * c
 four-n x a b c e = omega (arith, ap (λ (k : ℕ). x * k) e)
 
 -- a number above zero
-pub sqrt-above : (x : Float) → T (fits binary64 x) → T (finite x) → sign x ≡ false → 0 < size x → (k : ℕ) × T (finite (sqrt binary64 x)) × (ticks (sqrt binary64 x) ≡ pos k) × Root-error k (size x * L)
+sqrt-above : (x : Float) → T (fits binary64 x) → T (finite x) → sign x ≡ false → 0 < size x → (k : ℕ) × T (finite (sqrt binary64 x)) × (ticks (sqrt binary64 x) ≡ pos k) × Root-error k (size x * L)
 unfolding L
 sqrt-above x f p s z =
     let n = size x * 2 ^ 3468 in
@@ -128,7 +128,7 @@ sqrt-above x f p s z =
     let q = core (size x) (2 ^ 1074) (2 ^ 1198) n t k e z (pow-pos 1198) (lit≤ tt) r N in
     let v = ticks-of (round binary64 false t (2 ^ 2272)) false k (round-finite binary64 false t (2 ^ 2272) (pow-pos 2272) (in-range t (upper t n (2 ^ 2783) (r .0) (under (size x) (size-below x f p))))) in
     let i = sqrt-is x f p s z in
-    (k, subst (λ (y : Float). T (finite y)) (sym i) (v .1), ap ticks i ∙ v .0, q .1)
+    (k, subst (λ (y : Float). T (finite y)) (sym i) (v .1), ap ticks i ∙ v .0, q)
 
 zero-root : (e : ℤ) (k : ℕ) → zero * up e * 2 ^ low binary64 ≡ k * down e → k ≡ 0
 zero-root e k h = go k (down e) (up e) (2 ^ low binary64) (down-pos e) h

@@ -8,19 +8,20 @@ use native.Mathlib.Omega.{arith}
 use lib.Dec.{T, lit<}
 use lib.Pow.{pow-pos}
 use lib.IntN.{pos}
-use lib.Ieee.{Float, binary64, round}
+use lib.Ieee.{Float, binary64, fits, round}
+use lib.Ieee.Exact.{HasValue}
 use lib.Ieee.Fits.{round-fits}
 use lib.Ieee.Scale.{finite, grid}
 use Rattle.exact.specs.Fraction.{Frac, _over_, whole, part}
 use Rattle.exact.proofs.Ring.{con, _⊕_, _⊗_, ⊖_}
 use Rattle.exact.proofs.Rational.{ℚ, cls, _+_, _*_, neg, neg-cls, ∅, _▸_, _≐_, ring}
-use Rattle.exact.proofs.Order.{_≤_, _<_, number, _⊞_, _⊠_, _≼_, _by_, _⇒_, le}
-use Rattle.exact.proofs.Within.{0#, 0ₑ, 1ₑ, num, 2⁻, computes, closed, ≤-trans, ≤-of, 0≤num, cancel, _within_, within-≤, within-at, within-neg, within-nonneg, _≈⟨_⟩_, near, near-at, near-neg}
+use Rattle.exact.proofs.Order.{_≤_, number, _⊞_, _⊠_, _≼_, _by_, _⇒_, le}
+use Rattle.exact.proofs.Within.{0#, 0ₑ, 1ₑ, num, 2⁻, computes, closed, ≤-trans, ≤-of, 0≤num, cancel, _within_, within-≤, within-at, within-neg, within-nonneg, _≈⟨_⟩_, near, near-at, near-neg, num-≤, num-*, num-+, near-of}
+use Rattle.exact.proofs.Numbers.{≤-num, num-max, over-num, as-over, 0<num}
 use Rattle.rounding.specs.Value.{signed, L, Is}
 use Rattle.rounding.specs.Theorems.{limit}
 use Rattle.rounding.proofs.Units.{Near-whole, grid-near, grid-whole, round-finite}
-use Rattle.rounding.proofs.Fractions.{W, num-≤, ≤-num, num-*, num-+, num-max, over-num, over-is, 0<num, near-of}
-use Rattle.rounding.proofs.Values.{#_, of-value, Λ, λ₁, ticks-in-one}
+use Rattle.rounding.proofs.Values.{W, #_, of-value, Λ, λ₁, ticks-in-one}
 
 pub record Rounds (x : Float) (t e : ℚ) : Type 0 where
   pub is : Is x
@@ -34,6 +35,10 @@ pub record Exact (r : Float) (t : ℚ) : Type 0 where
 pub own : {x : Float} → Is x → Exact x (# x)
 own i = record { is = i; value = refl }
 
+-- the value a / c
+pub value-exact : (x : Float) (s : Bool) (a c : ℕ) → N._<_ 0 c → T (fits binary64 x) → HasValue x s a c → Exact x (cls (signed s a over c))
+value-exact x s a c C f v = let k = of-value x s a c C v in record { is = record { fit = f; fin = k .0 }; value = k .1 }
+
 pub exact-rounds : {r : Float} {t : ℚ} → Exact r t → Rounds r t 0#
 exact-rounds h = record { is = h .is; near = near-of (h .value) }
 
@@ -41,7 +46,7 @@ pub exact-at : {r : Float} {s t : ℚ} → s ≡ t → Exact r s → Exact r t
 exact-at {r} p h = subst (λ t. Exact r t) p h
 
 -- r is `round` of a fraction that is t: what each operation does with its exact result t
-pub record Rounded (r : Float) (t : ℚ) : Type 0 where
+pub record Nearest (r : Float) (t : ℚ) : Type 0 where
   pub sign : Bool
   pub top : ℕ
   pub bottom : ℕ
@@ -107,13 +112,13 @@ normal-ticks : num (2 ^ 52) ≤ 2⁻ 1022 * Λ
 unfolding computes L
 normal-ticks = closed tt
 
-in-range : (n d : ℕ) → N._<_ 0 d → num n ≤ cls limit * num d → N._<_ n (N._*_ (2 ^ 1023) d)
-in-range n d D h = go (2 ^ 1000) (2 ^ 1023) (lit< tt) (≤-num n (N._*_ (2 ^ 1000) d) (≤-trans h (≤-of (sym (num-* (2 ^ 1000) d)))))
+below-overflow : (n d : ℕ) → N._<_ 0 d → num n ≤ cls limit * num d → N._<_ n (N._*_ (2 ^ 1023) d)
+below-overflow n d D h = go (2 ^ 1000) (2 ^ 1023) (lit< tt) (≤-num n (N._*_ (2 ^ 1000) d) (≤-trans h (≤-of (sym (num-* (2 ^ 1000) d)))))
   where
     go : (b r : ℕ) → N._<_ b r → N._≤_ n (N._*_ b d) → N._<_ n (N._*_ r d)
     go b r B k = omega (arith, mul-le-mul-right d B)
 
-module _ {r : Float} {t m : ℚ} (k : Rounded r t) (h : t within m) (l : t within cls limit) where
+module _ {r : Float} {t m : ℚ} (k : Nearest r t) (h : t within m) (l : t within cls limit) where
   s : Bool
   s = k .sign
 
@@ -129,7 +134,7 @@ module _ {r : Float} {t m : ℚ} (k : Rounded r t) (h : t within m) (l : t withi
 
   t-is : t ≡ ± s p
   unfolding s n d p
-  t-is = sym (over-is (signed s n) d (k .above) (k .value)) ∙ ±-over s n d
+  t-is = sym (as-over (signed s n) d (k .above) (k .value)) ∙ ±-over s n d
 
   p-is : num n ≡ p * num d
   unfolding p n d
@@ -144,12 +149,12 @@ module _ {r : Float} {t m : ℚ} (k : Rounded r t) (h : t within m) (l : t withi
 
   result : T (finite (round binary64 s n d)) × (# round binary64 s n d ≡ cls (signed s g over (2 ^ 1074)))
   unfolding g n d
-  result = of-value (round binary64 s n d) s g (2 ^ 1074) (pow-pos 1074) (round-finite binary64 s n d (k .above) (in-range n d (k .above)
+  result = of-value (round binary64 s n d) s g (2 ^ 1074) (pow-pos 1074) (round-finite binary64 s n d (k .above) (below-overflow n d (k .above)
       (≤-trans (≤-of p-is) (le (p ▸ num d ▸ ∅) (λ p d. p ≼ con limit ⇒ λ l. 0ₑ ≼ d ⇒ λ q. p ⊗ d ≼ con limit ⊗ d by l ⊠ q) tt (p-within l .up) (0≤num d)))))
 
   ticks-over : (g : ℕ) → cls (pos g over (2 ^ 1074)) ≡ num g * λ₁
   unfolding L
-  ticks-over g = over-is (pos g) (2 ^ 1074) (pow-pos 1074) (ring (num g ▸ ∅) (λ g. g ≐ g ⊗ 1ₑ) tt ∙ ap (λ o. num g * o) (sym ticks-in-one) ∙ ring (num g ▸ Λ ▸ λ₁ ▸ ∅) (λ g Λ l. g ⊗ (Λ ⊗ l) ≐ g ⊗ l ⊗ Λ) tt)
+  ticks-over g = as-over (pos g) (2 ^ 1074) (pow-pos 1074) (ring (num g ▸ ∅) (λ g. g ≐ g ⊗ 1ₑ) tt ∙ ap (λ o. num g * o) (sym ticks-in-one) ∙ ring (num g ▸ Λ ▸ λ₁ ▸ ∅) (λ g Λ l. g ⊗ (Λ ⊗ l) ≐ g ⊗ l ⊗ Λ) tt)
 
   rounds : num g * λ₁ ≈⟨ m * 2⁻ 53 ⟩ p → Rounds r t (m * 2⁻ 53)
   unfolding s n d g
@@ -176,6 +181,6 @@ module _ {r : Float} {t m : ℚ} (k : Rounded r t) (h : t within m) (l : t withi
       (subst (λ (x : ℕ). Apart (N._*_ g d) (N._*_ n x) (N._*_ n x)) o (times g n d (grid-whole binary64 n d n (k .above) (ap (λ (x : ℕ). N._*_ n x) (sym o))))))
 
 -- any bound: half the smallest positive number more
-pub rounds-tiny : {r : Float} {t m : ℚ} → Rounded r t → t within m → m ≤ cls limit → Rounds r t (m * 2⁻ 53 + 2⁻ 1075)
+pub rounds-tiny : {r : Float} {t m : ℚ} → Nearest r t → t within m → m ≤ cls limit → Rounds r t (m * 2⁻ 53 + 2⁻ 1075)
 rounds-tiny {r} {t} {m} k h l = subst (λ e. Rounds r t e) (ring (m ▸ ∅) (λ m. (m ⊕ con (part 1022)) ⊗ con (part 53) ≐ m ⊗ con (part 53) ⊕ con (part 1075)) tt)
     (rounds-normal k (within-≤ h (le (m ▸ ∅) (λ m. m ≼ m ⊕ con (part 1022) by number (part 1022)) tt)) (within-≤ h l) (le (m ▸ ∅) (λ m. 0ₑ ≼ m ⇒ λ h. con (part 1022) ≼ m ⊕ con (part 1022) by h) tt (within-nonneg h)))

@@ -9,12 +9,12 @@ use borrow.Author.Differences.{neg-is, product-is, same-in}
 use borrow.Author.Differences.{up as upZ, down as downZ}
 use Rattle.rounding.specs.Value.{signed}
 
-abs-is : (z : ℤ) → natAbs z ≡ upZ z + downZ z
-abs-is (pos n) = omega arith
-abs-is (negsuc n) = omega arith
+abs-up-down : (z : ℤ) → natAbs z ≡ upZ z + downZ z
+abs-up-down (pos n) = omega arith
+abs-up-down (negsuc n) = omega arith
 
 pub abs-scale : (z : ℤ) (n : ℕ) → natAbs (z *ℤ pos n) ≡ natAbs z * n
-abs-scale z n = omega (arith, abs-is (z *ℤ pos n), product-is z (pos n), ap (λ (k : ℕ). k * n) (abs-is z))
+abs-scale z n = omega (arith, abs-up-down (z *ℤ pos n), product-is z (pos n), ap (λ (k : ℕ). k * n) (abs-up-down z))
 
 pub signed-is : (s : Bool) (n : ℕ) → (upZ (signed s n) + downZ (signed s n) ≡ n) × (natAbs (signed s n) ≡ n)
 signed-is false n = omega arith

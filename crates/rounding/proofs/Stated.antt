@@ -4,26 +4,26 @@ use mathlib.Core.Logic.{_⊎_, inl, inr}
 use Prim.Native.Nat.{ℕ, _^_}
 use lib.IntN.{ℤ, pos, negsuc, natAbs, _*ℤ_}
 use lib.Ieee.{Float}
-use Rattle.exact.specs.Fraction.{Frac, whole}
+use Rattle.exact.specs.Fraction.{Frac, whole, magnitude}
 use Rattle.exact.proofs.Rational.{cls, _*_, neg, neg-cls}
 use Rattle.exact.proofs.Within.{0#}
-use Rattle.exact.proofs.Distance.{close-back}
+use Rattle.exact.proofs.Numbers.{over-num, as-over}
+use Rattle.exact.proofs.Distance.{close-back, from-≈, same-frac}
 use Rattle.rounding.specs.Value.{val, L}
-use Rattle.rounding.specs.Theorems.{Within, Exactly, Nonzero, Held, magnitude}
-use Rattle.rounding.proofs.Fractions.{over-num, over-is, from-≈, to-≈}
+use Rattle.rounding.specs.Theorems.{Rounded, Exactly, Nonzero, Held}
 use Rattle.rounding.proofs.Ticks.{L-pos}
 use Rattle.rounding.proofs.Values.{#_, Λ}
 use Rattle.rounding.proofs.Rounds.{Rounds, Exact}
 use Rattle.rounding.proofs.Exact.{Short}
 
-pub within : {r : Float} (e t : Frac) → Rounds r (cls t) (cls e) → Within r e t
-within {r} e t h = (h .is, close-back (val r) e t (h .near))
+pub rounded : {r : Float} (t e : Frac) → Rounds r (cls t) (cls e) → Rounded r t e
+rounded {r} t e h = (h .is, close-back (val r) e t (h .near))
 
 pub exactly : {r : Float} (t : Frac) → Exact r (cls t) → Exactly r t
-exactly {r} t h = (h .is, to-≈ (val r) t (h .value))
+exactly {r} t h = (h .is, same-frac (val r) t (h .value))
 
 pub nonzero : (y : Float) → Nonzero y → # y ≡ 0# → ⊥
-nonzero y h e = h (to-≈ (val y) (whole (pos 0)) e)
+nonzero y h e = h (same-frac (val y) (whole (pos 0)) e)
 
 pub short : {t : Frac} → Held t → Short (cls t)
 short {t} h = record {
@@ -38,7 +38,7 @@ pub held : (t : Frac) → Short (cls t) → Held t
 held t h = record {
   digits = h .digits;
   zeros = h .zeros;
-  is = to-≈ t _ (sym (over-is (h .digits *ℤ pos (2 ^ h .zeros)) L L-pos (h .is)));
+  is = same-frac t _ (sym (as-over (h .digits *ℤ pos (2 ^ h .zeros)) L L-pos (h .is)));
   small = h .small;
   below = h .below;
 }

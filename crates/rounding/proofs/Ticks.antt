@@ -7,13 +7,16 @@ use native.Mathlib.Omega.{arith}
 use lib.Dec.{T, ltb, leb, eqb, leb→le, ltb→lt}
 use lib.Pow.{pow-add, pow-pos, pow-lt}
 use lib.IntN.{ℤ, pos, negsuc, negℤ, natAbs, _*ℤ_}
-use lib.Ieee.{Float, nan, inf, fin, binary64, prec, emax, low, up, down, fits, neg}
+use lib.Ieee.{Float, nan, inf, fin, binary64, low, up, down, fits, neg}
 use lib.Ieee.Fits.{down-pos, and-l, and-r}
 use lib.Ieee.Exact.{HasValue}
 use lib.Ieee.Scale.{finite}
 use Rattle.exact.specs.Fraction.{den}
 use Rattle.rounding.specs.Value.{signed, top, bottom, val, L, ticks}
 use Rattle.rounding.proofs.Signs.{signed-scale, signed-is, signed-neg}
+
+abbrev pub Fits : Float → Type 0
+Fits x = T (fits binary64 x)
 
 pub L-pos : 0 < L
 unfolding L
@@ -53,7 +56,7 @@ whole-ticks m (negsuc k) h =
     x ∙ sym (ap (λ (y : ℕ). y / 2 ^ suc k * 2 ^ suc k) x ∙ ap (λ (y : ℕ). y * 2 ^ suc k) (mul-div-cancel (m * 2 ^ (low binary64 - suc k)) (pow-pos (suc k))))
 
 -- what `fits` says of a number that is not 0
-pub fit-parts : (s : Bool) (m : ℕ) (e : ℤ) → T (fits binary64 (fin s (suc m) e)) → (suc m < 2 ^ 53) × (down e ≤ 2 ^ 1074) × (suc m * up e < 2 ^ 1024 * down e)
+pub fit-parts : (s : Bool) (m : ℕ) (e : ℤ) → Fits (fin s (suc m) e) → (suc m < 2 ^ 53) × (down e ≤ 2 ^ 1074) × (suc m * up e < 2 ^ 1024 * down e)
 unfolding fits
 fit-parts s m e t =
     let a = eqb (suc m % 2) 1 in
@@ -78,7 +81,7 @@ zero-ticks s u l d =
     let z : natAbs (signed s (0 * u * l / d)) ≡ 0 = signed-is s (0 * u * l / d) .1 ∙ ap (λ (k : ℕ). k / d) e ∙ zero-div d in
     e ∙ sym (ap (λ (k : ℕ). k * d) z ∙ zero-mul d)
 
-pub has-value : (x : Float) → T (fits binary64 x) → T (finite x) → HasValue x (sign x) (size x) (2 ^ low binary64)
+pub has-value : (x : Float) → Fits x → T (finite x) → HasValue x (sign x) (size x) (2 ^ low binary64)
 unfolding size ticks
 has-value nan f p = absurd p
 has-value (inf s) f p = absurd p
@@ -93,7 +96,7 @@ ticks-are (inf true) = refl
 ticks-are (fin s m e) = ap (signed s) (sym (signed-is s (m * up e * 2 ^ 1074 / down e) .1))
 
 -- the value in ticks is the value: ticks x / L and top x / bottom x are one fraction
-pub value-ticks : (x : Float) → T (fits binary64 x) → T (finite x) → ticks x *ℤ pos (bottom x) ≡ top x *ℤ pos L
+pub value-ticks : (x : Float) → Fits x → T (finite x) → ticks x *ℤ pos (bottom x) ≡ top x *ℤ pos L
 unfolding L
 value-ticks nan f p = absurd p
 value-ticks (inf s) f p = absurd p
@@ -120,7 +123,7 @@ neg-finite (fin s m e) p = tt
 lower : (a l x d t : ℕ) → 0 < l → a * l ≡ x * d → a < t * d → x < t * l
 lower a l x d t P e h = native.Mathlib.Nat.lt-of-mul-lt-mul-right d (omega (arith, native.Mathlib.Nat.mul-lt-mul-of-pos-right h P))
 
-pub size-below : (x : Float) → T (fits binary64 x) → T (finite x) → size x < 2 ^ 1024 * 2 ^ 1074
+pub size-below : (x : Float) → Fits x → T (finite x) → size x < 2 ^ 1024 * 2 ^ 1074
 size-below nan f p = absurd p
 size-below (inf s) f p = absurd p
 size-below (fin s zero e) f p = lower (zero * up e) (2 ^ 1074) (size (fin s zero e)) (down e) (2 ^ 1024) (pow-pos 1074) (has-value (fin s zero e) f p .1) (none (up e) (2 ^ 1024) (down e) (pow-pos 1024) (down-pos e))

@@ -44,7 +44,7 @@ half-by q r u Ordering·lt c l = omega arith
 half-by q r u Ordering·eq c l = omega (arith, parity q u)
 half-by q r u Ordering·gt c l = omega arith
 
-pub closest-half : (n u : ℕ) → 0 < u → Half n u (closest n u)
+closest-half : (n u : ℕ) → 0 < u → Half n u (closest n u)
 closest-half n u U = subst (λ (x : ℕ). Half x u (closest n u)) (div-add-mod' n u) (half-by (n / u) (n % u) u (compare (n % u * 2) u) (cmp (n % u * 2) u) (mod-lt n U))
 
 -- ---- the unit: no digit is dropped, or the fraction has all p digits
@@ -143,12 +143,12 @@ less num l e den L h = omega (arith, native.Mathlib.Nat.mul-lt-mul-of-pos-right 
 twice-top : (l e : ℕ) → 2 ^ l * 2 ^ e * 2 ≡ 2 ^ (l + suc e)
 twice-top l e = omega (arith, pow-add 2 l (suc e), ap (λ (x : ℕ). 2 ^ l * x) (pow-succ' 2 e))
 
-pub grid-under : (f : Format) (num den : ℕ) → 0 < den → num < 2 ^ emax f * den → grid f num den < overflow f
+grid-under : (f : Format) (num den : ℕ) → 0 < den → num < 2 ^ emax f * den → grid f num den < overflow f
 grid-under f num den D h =
     subst (λ (x : ℕ). grid f num den < x) (twice-top (low f) (emax f))
     (under (2 ^ (prec f - 1)) (num * 2 ^ low f) den (grid f num den) (2 ^ low f * 2 ^ emax f) (pow-pos (prec f - 1)) D (less num (2 ^ low f) (2 ^ emax f) den (pow-pos (low f)) h) (grid-near f num den D))
 
--- THE ROUNDING LEMMA. Below 2 ^ emax the result is finite, has the sign s, and is `grid f num den` units, which `grid-near` holds to the fraction.
+-- The rounding lemma: below 2 ^ emax the result is finite, has the sign s, and is `grid f num den` units, which `grid-near` holds to the fraction.
 pub round-finite : (f : Format) (s : Bool) (num den : ℕ) → 0 < den → num < 2 ^ emax f * den → HasValue (round f s num den) s (grid f num den) (2 ^ low f)
 round-finite f s num den D h =
     subst (λ (z : Float). HasValue z s (grid f num den) (2 ^ low f)) (sym (round-is f s num den))

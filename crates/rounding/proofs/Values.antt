@@ -11,16 +11,20 @@ use lib.Ieee.{Float, nan, inf, fin, binary64, up, down}
 use lib.Ieee.Exact.{HasValue}
 use lib.Ieee.Fits.{down-pos, neg-fits}
 use lib.Ieee.Scale.{finite}
-use Rattle.exact.specs.Fraction.{Frac, _over_}
+use Rattle.exact.specs.Fraction.{Frac, _over_, whole}
 use Rattle.exact.specs.Fraction.{neg as negᶠ}
 use Rattle.exact.proofs.Ring.{_⊗_}
-use Rattle.exact.proofs.Rational.{ℚ, cls, _*_, neg, neg-cls, ∅, _▸_, _≐_, ring}
+use Rattle.exact.proofs.Rational.{ℚ, cls, _*_, neg, neg-cls, ∅, _▸_, _≐_, ring, whole-*}
 use Rattle.exact.proofs.Within.{0#, 1#, num, 2⁻, computes}
 use Rattle.exact.proofs.Order.{_<_}
+use Rattle.exact.proofs.Numbers.{over-num, as-over, 0<num, cancel-≡}
 use Rattle.rounding.specs.Value.{signed, top, bottom, val, L, ticks, Is}
-use Rattle.rounding.proofs.Fractions.{W, W-*, over-num, over-is, 0<num, cancel-≡}
 use Rattle.rounding.proofs.Signs.{signed-scale}
 use Rattle.rounding.proofs.Ticks.{L-pos, bottom-pos, value-ticks, neg-top, neg-finite}
+
+-- a whole number as a rational number
+abbrev pub W : ℤ → ℚ
+W z = cls (whole z)
 
 infix 90 #_
 abbrev pub #_ : Float → ℚ
@@ -41,8 +45,8 @@ of-value nan s a c C v = absurd v
 of-value (inf t) s a c C v = absurd v
 of-value (fin t m e) s a c C v = (
   tt,
-  over-is (signed t (N._*_ m (up e))) (down e) (down-pos e)
-      (cancel-≡ (0<num c C) (sym (W-* (signed t (N._*_ m (up e))) (pos c)) ∙ ap W crossed ∙ W-* (signed s a) (pos (down e)) ∙ ap (λ w. w * num (down e)) (sym (over-num (signed s a) c C))
+  as-over (signed t (N._*_ m (up e))) (down e) (down-pos e)
+      (cancel-≡ (0<num c C) (sym (whole-* (signed t (N._*_ m (up e))) (pos c)) ∙ ap W crossed ∙ whole-* (signed s a) (pos (down e)) ∙ ap (λ w. w * num (down e)) (sym (over-num (signed s a) c C))
       ∙ ring (cls (signed s a over c) ▸ num c ▸ num (down e) ▸ ∅) (λ q c d. q ⊗ c ⊗ d ≐ q ⊗ d ⊗ c) tt)),
 )
   where
@@ -66,5 +70,5 @@ pub 0<Λ : 0# < Λ
 
 pub of-ticks : {x : Float} → Is x → W (ticks x) ≡ # x * Λ
 of-ticks {x} i = cancel-≡ (0<num (bottom x) (bottom-pos x))
-    (sym (W-* (ticks x) (pos (bottom x))) ∙ ap W (value-ticks x (i .fit) (i .fin)) ∙ W-* (top x) (pos L) ∙ ap (λ w. w * Λ) (sym (over-num (top x) (bottom x) (bottom-pos x)))
+    (sym (whole-* (ticks x) (pos (bottom x))) ∙ ap W (value-ticks x (i .fit) (i .fin)) ∙ whole-* (top x) (pos L) ∙ ap (λ w. w * Λ) (sym (over-num (top x) (bottom x) (bottom-pos x)))
     ∙ ring (# x ▸ num (bottom x) ▸ Λ ▸ ∅) (λ x b Λ. x ⊗ b ⊗ Λ ≐ x ⊗ Λ ⊗ b) tt)

@@ -8,6 +8,7 @@ use lib.Ieee.{Float, binary64, add, sub, mul, div, neg, lt, le, ofBits, ofInt, t
 use Rattle.std.specs.Floats.{sqrt}
 use Rattle.exact.specs.Fraction.{Frac, _over_, whole, part, cross, _+ᶠ_, _-ᶠ_, _*ᶠ_, _≈_, _≤ᶠ_}
 use Rattle.exact.specs.Fraction.{neg as negᶠ}
+pub use Rattle.exact.specs.Fraction.{magnitude}
 use Rattle.exact.specs.Distance.{Size, Close}
 use Rattle.rounding.specs.Value.{val, Is, ticks, L, field, spelled}
 
@@ -15,8 +16,8 @@ abbrev pub limit : Frac
 limit = whole (pos (2 ^ 1000))
 
 -- r is a finite f64 within e of t
-abbrev pub Within : Float → Frac → Frac → Type 0
-Within r e t = Is r × Close (val r) e t
+abbrev pub Rounded : Float → Frac → Frac → Type 0
+Rounded r t e = Is r × Close (val r) e t
 
 -- r is the finite f64 whose value is t
 abbrev pub Exactly : Float → Frac → Type 0
@@ -25,26 +26,22 @@ Exactly r t = Is r × (val r ≈ t)
 abbrev pub Nonzero : Float → Type 0
 Nonzero y = val y ≈ whole (pos 0) → ⊥
 
--- |t|
-abbrev pub magnitude : Frac → Frac
-magnitude t = record { num = pos (natAbs (t .num)); low = t .low }
-
 -- ---- the operations, for any m that is the size of the exact result at least
 
 abbrev pub Sum-law : Type 0
-Sum-law = (x y : Float) (m : Frac) → Is x → Is y → Size (val x +ᶠ val y) m → m ≤ᶠ limit → Within (add binary64 x y) (m *ᶠ part 53) (val x +ᶠ val y)
+Sum-law = (x y : Float) (m : Frac) → Is x → Is y → Size (val x +ᶠ val y) m → m ≤ᶠ limit → Rounded (add binary64 x y) (val x +ᶠ val y) (m *ᶠ part 53)
 
 abbrev pub Difference-law : Type 0
-Difference-law = (x y : Float) (m : Frac) → Is x → Is y → Size (val x -ᶠ val y) m → m ≤ᶠ limit → Within (sub binary64 x y) (m *ᶠ part 53) (val x -ᶠ val y)
+Difference-law = (x y : Float) (m : Frac) → Is x → Is y → Size (val x -ᶠ val y) m → m ≤ᶠ limit → Rounded (sub binary64 x y) (val x -ᶠ val y) (m *ᶠ part 53)
 
 abbrev pub Product-law : Type 0
-Product-law = (x y : Float) (m : Frac) → Is x → Is y → Size (val x *ᶠ val y) m → m ≤ᶠ limit → Within (mul binary64 x y) (m *ᶠ part 53 +ᶠ part 1075) (val x *ᶠ val y)
+Product-law = (x y : Float) (m : Frac) → Is x → Is y → Size (val x *ᶠ val y) m → m ≤ᶠ limit → Rounded (mul binary64 x y) (val x *ᶠ val y) (m *ᶠ part 53 +ᶠ part 1075)
 
 -- q is the exact quotient
 abbrev pub Quotient-law : Type 0
-Quotient-law = (x y : Float) (q m : Frac) → Is x → Is y → Nonzero y → q *ᶠ val y ≈ val x → Size q m → m ≤ᶠ limit → Within (div binary64 x y) (m *ᶠ part 53 +ᶠ part 1075) q
+Quotient-law = (x y : Float) (q m : Frac) → Is x → Is y → Nonzero y → q *ᶠ val y ≈ val x → Size q m → m ≤ᶠ limit → Rounded (div binary64 x y) q (m *ᶠ part 53 +ᶠ part 1075)
 
--- a root is known by its square: 2 ^ -52 for a rounding of 2 ^ -53 that is squared, 2 ^ -92 for the rest
+-- a root is known by its square: 2 ^ -52 is twice the rounding of 2 ^ -53, and 2 ^ -92 is for the rest
 abbrev pub Root-law : Type 0
 Root-law = (x : Float) → Is x → whole (pos 0) ≤ᶠ val x
     → Is (sqrt binary64 x) × (whole (pos 0) ≤ᶠ val (sqrt binary64 x)) × Close (val (sqrt binary64 x) *ᶠ val (sqrt binary64 x)) (val x *ᶠ (part 52 +ᶠ part 92)) (val x)
@@ -98,7 +95,7 @@ Neighbours-law = (x y : Float) → Is x → Is y → val y *ᶠ part 1 ≤ᶠ va
 -- half of x is exact where it is a normal number, and off by half the smallest positive f64 below
 abbrev pub Half-law : Type 0
 Half-law = (x h : Float) → Is x → Is h → val h ≈ part 1
-    → (part 1021 ≤ᶠ magnitude (val x) → Exactly (mul binary64 x h) (val x *ᶠ part 1)) × Within (mul binary64 x h) (part 1075) (val x *ᶠ part 1)
+    → (part 1021 ≤ᶠ magnitude (val x) → Exactly (mul binary64 x h) (val x *ᶠ part 1)) × Rounded (mul binary64 x h) (val x *ᶠ part 1) (part 1075)
 
 -- a whole number k times a constant n / 2 ^ j
 abbrev pub Multiple-law : Type 0
@@ -125,6 +122,6 @@ Truncation-law = (w : ℕ) (x : Float) → Is x → whole (pos 0) ≤ᶠ val x �
 abbrev pub Two : Float → Type 0
 Two x = Is x × Size (val x) (whole (pos 2))
 
--- 12 roundings of 2 ^ -53: 4 in each product, and 8 in a difference of size 8, but for what they grow by
+-- 16 roundings of 2 ^ -53, 4 in each product and 8 in the difference, are 2 ^ -49; the rest is for what they grow by
 abbrev pub Is-cross : Float → Float → Float → Float → Float → Type 0
-Is-cross r a b c d = Two a → Two b → Two c → Two d → Within r (part 48) (val a *ᶠ val b -ᶠ val c *ᶠ val d)
+Is-cross r a b c d = Two a → Two b → Two c → Two d → Rounded r (val a *ᶠ val b -ᶠ val c *ᶠ val d) (part 48)

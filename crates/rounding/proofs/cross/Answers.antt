@@ -9,7 +9,7 @@ use Rattle.rounding.specs.Theorems.{Two}
 use Rattle.rounding.proofs.Values.{#_}
 use Rattle.rounding.proofs.Approx.{Approx, itself}
 use Rattle.rounding.proofs.Analysis.{_⟨-⟩_, _⟨*⟩_, ∎, _⊳_, analyse}
-use Rattle.rounding.proofs.Stated.{within}
+use Rattle.rounding.proofs.Stated.{rounded}
 use Rattle.rounding.proofs.cross.Needs as need
 
 leaf : {x : Float} → Two x → Approx x (# x) (whole (pos 2)) (whole (pos 0))
@@ -20,4 +20,4 @@ cross-near a b c d = analyse (leaf a ⊳ leaf b ⊳ leaf c ⊳ leaf d ⊳ ∎) (
 
 pub returns : need.returns
 unfolding computes
-returns k a b c d = within _ _ (cross-near a b c d .rounds)
+returns k a b c d = rounded _ _ (cross-near a b c d .rounds)

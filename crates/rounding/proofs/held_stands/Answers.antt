@@ -1,5 +1,5 @@
 use Rattle.exact.proofs.Within.{computes}
-use Rattle.rounding.proofs.Fractions.{from-≈}
+use Rattle.exact.proofs.Distance.{from-≈}
 use Rattle.rounding.proofs.Exact.{float-short, sum-exact, difference-exact, product-exact, quotient-exact}
 use Rattle.rounding.proofs.Stated.{exactly, nonzero, short, held}
 use Rattle.rounding.proofs.held_stands.Needs as need

@@ -1,0 +1,13 @@
+pub mod Numbers
+pub mod Polynomials
+pub mod Small
+pub mod Kernels
+pub mod Reduction
+pub mod Upward
+pub mod Sines
+pub mod Arc
+pub mod Pieces
+pub mod Octants
+pub mod Angles
+pub mod ArcCosine
+pub mod Tests
