@@ -6,7 +6,12 @@ ghost use Rattle.fault.specs.declared.RotationFault.{RotationFault as Fault};
 ghost use Rattle.euler.specs.Orders.{order, angle-order, made, Letters-law, Examples};
 ghost use Rattle.euler.specs.Names.{name, named, Names-law};
 ghost use Rattle.euler.specs.declared.EulerRot.{EulerRot as Rot};
+ghost use Rattle.euler.specs.declared.EulerRot.the-variants.{YXZ};
+
+mod list;
+
 use fault::RotationFault;
+pub use list::from_euler_list;
 
 // Euler rotation sequences. The turns of a plain name are about the axes of the body, which each turn moves (intrinsic);
 // those of a name ending in Ex are about the axes that stay (extrinsic).
@@ -72,6 +77,13 @@ impl EulerRot {
         }
     }
 
+    // The original's default: YXZ as yaw (y-axis), pitch (x-axis), roll (z-axis).
+    pub fn default_order() -> EulerRot
+        ensures { λ r. ⌜ r ≡ YXZ ⌝ }
+    {
+        EulerRot::YXZ
+    }
+
     pub fn name(self) -> &'static str
         ensures { λ r. ⌜ now r ≡ name self ⌝ }
     {
@@ -119,6 +131,16 @@ pub trait FromEuler: Sized {
         k: Self::Scalar,
     ) -> Result<Self, RotationFault>
         ensures { λ r. ⌜ r ≡ answer (refusal order i j k) (rotation order i j k) ⌝ };
+}
+
+// The three angles of a rotation in an order.
+pub trait ToEuler: Sized {
+    type Scalar;
+
+    ghost angles: { Self → Rot → Self·Scalar × Self·Scalar × Self·Scalar };
+
+    fn to_euler_angles(self, order: EulerRot) -> (Self::Scalar, Self::Scalar, Self::Scalar)
+        ensures { λ r. ⌜ r ≡ angles self order ⌝ };
 }
 
 #[derive(Copy, Clone, Debug, PartialEq, Eq)]

@@ -24,3 +24,8 @@ within g None = None
 abbrev pub answer : {F A : Type 0} → Option F → A → Result A F
 answer (Some f) a = Err f
 answer None a = Ok a
+
+-- tests, and then a call that may refuse itself
+abbrev pub tested : {F A : Type 0} → Option F → Result A F → Result A F
+tested (Some f) r = Err f
+tested None r = r

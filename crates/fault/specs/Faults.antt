@@ -9,7 +9,7 @@ use Rattle.fault.specs.declared.Layer.the-variants as At
 use Rattle.fault.specs.declared.NumberFault.{NumberFault}
 use Rattle.fault.specs.declared.NumberFault.the-variants.{NotFinite, TooLarge}
 use Rattle.fault.specs.declared.RotationFault.{RotationFault}
-use Rattle.fault.specs.declared.RotationFault.the-variants.{Number, NotNormalized, UnknownOrder}
+use Rattle.fault.specs.declared.RotationFault.the-variants.{Number, NotNormalized, NotNormalizable, UnknownOrder, TooShort}
 
 abbrev pub number : Refusal → ℕ
 number Why.NotFinite = 1
@@ -48,14 +48,20 @@ layer _ = At.Number
 abbrev pub rotation-refusal : RotationFault → Refusal
 rotation-refusal (Number f) = refusal f
 rotation-refusal (NotNormalized _) = Why.NotNormalized
+rotation-refusal (NotNormalizable _) = Why.NotNormalizable
 rotation-refusal (UnknownOrder _) = Why.UnknownOrder
+rotation-refusal (TooShort _) = Why.TooShort
 
 abbrev pub rotation-place : RotationFault → Place
 rotation-place (Number f) = place f
 rotation-place (NotNormalized argument) = Argument argument
+rotation-place (NotNormalizable argument) = Argument argument
 rotation-place (UnknownOrder argument) = Argument argument
+rotation-place (TooShort argument) = Argument argument
 
 abbrev pub rotation-layer : RotationFault → Layer
 rotation-layer (Number f) = layer f
 rotation-layer (NotNormalized _) = At.Rotation
+rotation-layer (NotNormalizable _) = At.Rotation
 rotation-layer (UnknownOrder _) = At.Rotation
+rotation-layer (TooShort _) = At.Rotation

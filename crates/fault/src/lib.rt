@@ -93,7 +93,9 @@ impl NumberFault {
 pub enum RotationFault {
     Number(NumberFault),
     NotNormalized(u8),
+    NotNormalizable(u8),
     UnknownOrder(u8),
+    TooShort(u8),
 }
 
 pub impl From<NumberFault> for RotationFault as RotationFromNumber {
@@ -117,7 +119,9 @@ impl RotationFault {
         match self {
             RotationFault::Number(f) => f.refusal(),
             RotationFault::NotNormalized(_) => Refusal::NotNormalized,
+            RotationFault::NotNormalizable(_) => Refusal::NotNormalizable,
             RotationFault::UnknownOrder(_) => Refusal::UnknownOrder,
+            RotationFault::TooShort(_) => Refusal::TooShort,
         }
     }
 
@@ -127,7 +131,9 @@ impl RotationFault {
         match self {
             RotationFault::Number(f) => f.place(),
             RotationFault::NotNormalized(argument) => Place::Argument(argument),
+            RotationFault::NotNormalizable(argument) => Place::Argument(argument),
             RotationFault::UnknownOrder(argument) => Place::Argument(argument),
+            RotationFault::TooShort(argument) => Place::Argument(argument),
         }
     }
 
@@ -136,7 +142,8 @@ impl RotationFault {
     {
         match self {
             RotationFault::Number(f) => f.layer(),
-            RotationFault::NotNormalized(_) | RotationFault::UnknownOrder(_) => Layer::Rotation,
+            RotationFault::NotNormalized(_) | RotationFault::NotNormalizable(_) => Layer::Rotation,
+            RotationFault::UnknownOrder(_) | RotationFault::TooShort(_) => Layer::Rotation,
         }
     }
 }

@@ -69,11 +69,14 @@ module _ {A : Type 0} (O : Ops A) where
 abbrev pub parity : Bool → Float
 parity even = cond even (neg one) one
 
+abbrev pub signed : Bool → Float → Float
+signed even t = cond even (neg t) t
+
 -- with Ex the angles are read backwards; the middle one is taken at the opposite where the parity is even
-abbrev pub by-order : Order → Float → Float → Float → Quat Float
+unfoldable pub by-order : Order → Float → Float → Float → Quat Float
 by-order o x y z =
     let ends : Float × Float = cond (o .«frame_static») (x, z) (z, x) in
-    assembled floats (parity (o .«parity_even»)) o (half-angle (ends .0)) (half-angle (cond (o .«parity_even») (neg y) y)) (half-angle (ends .1))
+    assembled floats (parity (o .«parity_even»)) o (half-angle (ends .0)) (half-angle (signed (o .«parity_even») y)) (half-angle (ends .1))
 
 unfoldable pub from-euler : EulerRot → Float → Float → Float → DQuat
 from-euler n x y z = whole (by-order (order n) x y z)

@@ -1,22 +1,27 @@
 -- Quaternions of floats: their parts, the turns about one axis, and what turns a rotation away.
-use mathlib.Core.Bool.{Bool, _&&_}
+use mathlib.Core.Path.{_≡_}
+use mathlib.Core.Bool.{Bool}
 use mathlib.Core.List.{List}
 use Prim.Native.Nat.{ℕ}
-use lib.ListN.{getD}
-use lib.Ieee.{Float, nan, le}
-use Rattle.std.specs.Floats.{finite}
+use lib.Dec.{leb}
+use lib.ListN.{getD, length, set}
+use lib.Ieee.{Float, nan, neg, lt}
 use Rattle.std.specs.declared.option.Option.{Option}
+use Rattle.std.specs.declared.option.Option.the-variants.{Some, None}
+use Rattle.std.specs.declared.result.Result.{Result}
+use Rattle.std.specs.declared.result.Result.the-variants.{Ok, Err}
 use Rattle.fault.specs.Answers.{unless, within, _⨾_}
+use Rattle.fault.specs.declared.NumberFault.{NumberFault}
 use Rattle.fault.specs.declared.NumberFault.the-variants.{NotFinite}
 use Rattle.fault.specs.declared.RotationFault.{RotationFault}
-use Rattle.fault.specs.declared.RotationFault.the-variants.{Number, NotNormalized}
+use Rattle.fault.specs.declared.RotationFault.the-variants.{Number, NotNormalized, TooShort}
 use Rattle.exact.specs.Quat.{Quat, square}
 use Rattle.exact.specs.Vector.{Vec}
 use Rattle.rounding.specs.Value.{floats}
-use Rattle.numeric.specs.Floats.{_⊖_, _⊗_, bits, size}
+use Rattle.numeric.specs.Floats.{_⊗_, bits, size}
 use Rattle.numeric.specs.Tests.{angle-fault}
 use Rattle.numeric.specs.Sine.{sin-float, cos-float}
-use Rattle.vectors.specs.Vectors.{finite3}
+use Rattle.vectors.specs.Vectors.{finite3, finite4, unit}
 use Rattle.quaternion.specs.declared.dquat.DQuat.{DQuat}
 
 abbrev pub quat : Float → Float → Float → Float → DQuat
@@ -41,6 +46,9 @@ half = bits 0x3FE0_0000_0000_0000
 abbrev pub one : Float
 one = bits 0x3FF0_0000_0000_0000
 
+abbrev pub minus-one : Float
+minus-one = neg one
+
 abbrev pub two : Float
 two = bits 0x4000_0000_0000_0000
 
@@ -58,15 +66,35 @@ about-y angle = quat zero (sin-float (angle ⊗ half)) zero (cos-float (angle �
 abbrev pub about-z : Float → DQuat
 about-z angle = quat zero zero (sin-float (angle ⊗ half)) (cos-float (angle ⊗ half))
 
--- ---- lengths
+-- ---- tests
 
-abbrev pub finite4 : Quat Float → Bool
-finite4 q = finite (q .x) && finite (q .y) && finite (q .z) && finite (q .w)
+abbrev pub finite-fault4 : ℕ → Quat Float → Option NumberFault
+finite-fault4 at q = unless (finite4 q) (NotFinite at)
 
--- | |q|² − 1 | ≤ 0.0002, in floats
-abbrev pub normalized : Quat Float → Bool
-normalized q = le (size (square floats q ⊖ one)) (bits 0x3F2A_36E2_EB1C_432D)
+abbrev pub length-fault4 : ℕ → Quat Float → Option RotationFault
+length-fault4 at q = unless (unit (square floats q)) (NotNormalized at)
+
+-- a quaternion that has to be normalised: 1, then 3
+abbrev pub unit-fault4 : ℕ → Quat Float → Option RotationFault
+unit-fault4 at q = within Number (finite-fault4 at q) ⨾ length-fault4 at q
 
 -- what turns away the image of a vector: 1 for the quaternion, 1 for the vector, 3 for the quaternion
 abbrev pub image-fault : Quat Float → Vec Float → Option RotationFault
-image-fault q v = unless (finite4 q) (Number (NotFinite 0)) ⨾ unless (finite3 v) (Number (NotFinite 1)) ⨾ unless (normalized q) (NotNormalized 0)
+image-fault q v = within Number (finite-fault4 0 q) ⨾ unless (finite3 v) (Number (NotFinite 1)) ⨾ length-fault4 0 q
+
+-- |w| > 1 − 10⁻¹⁴
+abbrev pub near-identity : Quat Float → Bool
+near-identity q = lt (bits 0x3FEF_FFFF_FFFF_FFA6) (size (q .w))
+
+-- ---- slices
+
+abbrev pub four-fault : ℕ → List Float → Option RotationFault
+four-fault at a = unless (leb 4 (length a)) (TooShort at)
+
+-- the first four numbers of a slice are written, or nothing is
+abbrev pub WroteBy : Option RotationFault → Quat Float → List Float → Result (Unit {0}) RotationFault → List Float → Type 0
+WroteBy (Some f) q before r after = (r ≡ Err f) × (after ≡ before)
+WroteBy None q before r after = (r ≡ Ok tt) × (after ≡ set (set (set (set before 0 (q .x)) 1 (q .y)) 2 (q .z)) 3 (q .w))
+
+abbrev pub Wrote : Quat Float → List Float → Result (Unit {0}) RotationFault → List Float → Type 0
+Wrote q before r after = WroteBy (four-fault 1 before) q before r after

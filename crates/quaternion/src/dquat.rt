@@ -2,11 +2,13 @@
 ghost use mathlib.Core.Path.{_≡_};
 ghost use mathlib.Core.List.{[], _∷_};
 ghost use Rattle.fault.specs.Answers.{answer};
-ghost use Rattle.exact.specs.Quat.{product, dot, square};
+ghost use lib.Ieee.{binary64};
+ghost use Rattle.std.specs.Floats as Floats;
+ghost use Rattle.exact.specs.Quat.{product, dot, square, conjugate, plus, minus, scale};
 ghost use Rattle.exact.specs.Vector.{vector, rotated};
 ghost use Rattle.rounding.specs.Value.{floats};
 ghost use Rattle.vectors.specs.Vectors as V;
-ghost use Rattle.quaternion.specs.Quaternions.{quat, parts, listed, finite4, normalized, turn-fault, image-fault, about-x, about-y, about-z, two};
+ghost use Rattle.quaternion.specs.Quaternions.{quat, parts, whole, listed, four-fault, Wrote, unit-fault4, near-identity, finite-fault4, length-fault4, minus-one, turn-fault, image-fault, about-x, about-y, about-z, two};
 ghost use Rattle.quaternion.specs.Euler.{euler-fault, from-euler};
 use crate::euler_angles::DQuatFromEuler;
 use euler::EulerRot;
@@ -17,6 +19,7 @@ use fault::RotationFromNumber;
 use numeric::check_angle;
 use numeric::sin_cos_raw;
 use vectors::DVec3;
+use vectors::DVec4;
 
 #[derive(Clone, Copy, PartialEq, Debug)]
 pub struct DQuat {
@@ -45,6 +48,42 @@ impl DQuat {
         ensures { λ r. ⌜ r ≡ listed a ⌝ }
     {
         DQuat::from_xyzw(a[0], a[1], a[2], a[3])
+    }
+
+    pub fn from_vec4(v: DVec4) -> DQuat
+        ensures { λ r. ⌜ parts r ≡ V.parts4 v ⌝ }
+    {
+        DQuat::from_xyzw(v.x, v.y, v.z, v.w)
+    }
+
+    pub fn to_vec4(self) -> DVec4
+        ensures { λ r. ⌜ V.parts4 r ≡ parts self ⌝ }
+    {
+        DVec4::new(self.x, self.y, self.z, self.w)
+    }
+
+    // From the first four numbers of a slice.
+    pub fn from_slice(slice: &[f64]) -> Result<DQuat, RotationFault>
+        ensures { λ r. ⌜ r ≡ answer (four-fault 0 (now (slice .entry))) (listed (now (slice .entry))) ⌝ }
+    {
+        if slice.len() < 4 {
+            return Err(RotationFault::TooShort(0));
+        }
+        Ok(DQuat::from_xyzw(slice[0], slice[1], slice[2], slice[3]))
+    }
+
+    // Into the first four numbers of a slice; nothing is written where it is too short.
+    pub fn write_to_slice(self, slice: &mut [f64]) -> Result<(), RotationFault>
+        ensures { λ r. ⌜ Wrote (parts self) (now (slice .entry)) r (now (slice .exit)) ⌝ }
+    {
+        if slice.len() < 4 {
+            return Err(RotationFault::TooShort(1));
+        }
+        slice[0] = self.x;
+        slice[1] = self.y;
+        slice[2] = self.z;
+        slice[3] = self.w;
+        Ok(())
     }
 
     pub fn to_array(self) -> [f64; 4]
@@ -94,6 +133,27 @@ impl DQuat {
         DVec3::new(self.x, self.y, self.z)
     }
 
+    // The conjugate: the inverse of a quaternion of length 1.
+    pub fn conjugate(self) -> DQuat
+        ensures { λ r. ⌜ parts r ≡ conjugate floats (parts self) ⌝ }
+    {
+        DQuat {
+            x: -self.x,
+            y: -self.y,
+            z: -self.z,
+            w: self.w,
+        }
+    }
+
+    // The inverse of `self`, which is to be normalised.
+    pub fn inverse(self) -> Result<DQuat, RotationFault>
+        ensures { λ r. ⌜ r ≡ answer (unit-fault4 0 (parts self)) (whole (conjugate floats (parts self))) ⌝ }
+    {
+        self.check_finite(0)?;
+        self.check_normalized(0)?;
+        Ok(self.conjugate())
+    }
+
     // The dot product of `self` and `rhs`: the cosine of the angle between two rotations' quaternions.
     pub fn dot(self, rhs: DQuat) -> f64
         ensures { λ r. ⌜ r ≡ dot floats (parts self) (parts rhs) ⌝ }
@@ -108,18 +168,61 @@ impl DQuat {
         self.dot(self)
     }
 
+    // The length of `self`.
+    pub fn length(self) -> f64
+        ensures { λ r. ⌜ r ≡ Floats.sqrt binary64 (square floats (parts self)) ⌝ }
+    {
+        self.to_vec4().length()
+    }
+
+    // `1.0 / length()`.
+    pub fn length_recip(self) -> f64
+        ensures { λ r. ⌜ r ≡ V.recip (square floats (parts self)) ⌝ }
+    {
+        self.to_vec4().length_recip()
+    }
+
+    // `self` normalised to length 1.
+    pub fn normalize(self) -> Result<DQuat, RotationFault>
+        ensures { λ r. ⌜ r ≡ answer (V.normal-fault (parts self)) (whole (V.normal (parts self))) ⌝ }
+    {
+        let v = self.to_vec4().normalize()?;
+        Ok(DQuat::from_vec4(v))
+    }
+
     // Whether every component is finite.
     pub fn is_finite(self) -> bool
-        ensures { λ r. ⌜ r ≡ finite4 (parts self) ⌝ }
+        ensures { λ r. ⌜ r ≡ V.finite4 (parts self) ⌝ }
     {
-        self.x.is_finite() && self.y.is_finite() && self.z.is_finite() && self.w.is_finite()
+        self.to_vec4().is_finite()
+    }
+
+    // Whether some component is no number.
+    pub fn is_nan(self) -> bool
+        ensures { λ r. ⌜ r ≡ V.nan4 (parts self) ⌝ }
+    {
+        self.to_vec4().is_nan()
     }
 
     // Whether the squared length is within 2e-4 of 1.
     pub fn is_normalized(self) -> bool
-        ensures { λ r. ⌜ r ≡ normalized (parts self) ⌝ }
+        ensures { λ r. ⌜ r ≡ V.unit (square floats (parts self)) ⌝ }
     {
-        (self.length_squared() - 1.0).abs() <= 2e-4
+        self.to_vec4().is_normalized()
+    }
+
+    // Whether the scalar part is so near to 1 in size that the rotation is hardly one.
+    pub fn is_near_identity(self) -> bool
+        ensures { λ r. ⌜ r ≡ near-identity (parts self) ⌝ }
+    {
+        self.w.abs() > 0.99999999999999
+    }
+
+    // Whether all components differ by at most `max_abs_diff`.
+    pub fn abs_diff_eq(self, rhs: DQuat, max_abs_diff: f64) -> bool
+        ensures { λ r. ⌜ r ≡ V.close4 (parts self) (parts rhs) «max_abs_diff» ⌝ }
+    {
+        self.to_vec4().abs_diff_eq(rhs.to_vec4(), max_abs_diff)
     }
 
     // The rotation `rhs` followed by `self`.
@@ -150,15 +253,11 @@ impl DQuat {
     pub fn mul_vec3(self, rhs: DVec3) -> Result<DVec3, RotationFault>
         ensures { λ r. ⌜ r ≡ answer (image-fault (parts self) (V.parts rhs)) (V.vector (rotated floats two (parts self) (V.parts rhs))) ⌝ }
     {
-        if !self.is_finite() {
-            return Err(RotationFault::Number(NumberFault::NotFinite(0)));
-        }
+        self.check_finite(0)?;
         if !rhs.is_finite() {
             return Err(RotationFault::Number(NumberFault::NotFinite(1)));
         }
-        if !self.is_normalized() {
-            return Err(RotationFault::NotNormalized(0));
-        }
+        self.check_normalized(0)?;
         let w = self.w;
         let b = self.xyz();
         let b2 = b.dot(b);
@@ -167,5 +266,63 @@ impl DQuat {
                 .add(b.mul_scalar(rhs.dot(b) * 2.0))
                 .add(b.cross(rhs).mul_scalar(w * 2.0)),
         )
+    }
+
+    // The original's `self + rhs`. The sum is not guaranteed to be normalised.
+    pub fn add(self, rhs: DQuat) -> DQuat
+        ensures { λ r. ⌜ parts r ≡ plus floats (parts self) (parts rhs) ⌝ }
+    {
+        DQuat::from_vec4(self.to_vec4().add(rhs.to_vec4()))
+    }
+
+    // The original's `self - rhs`.
+    pub fn sub(self, rhs: DQuat) -> DQuat
+        ensures { λ r. ⌜ parts r ≡ minus floats (parts self) (parts rhs) ⌝ }
+    {
+        DQuat::from_vec4(self.to_vec4().sub(rhs.to_vec4()))
+    }
+
+    // The original's `self * rhs` with a number.
+    pub fn mul_scalar(self, rhs: f64) -> DQuat
+        ensures { λ r. ⌜ parts r ≡ scale floats (parts self) rhs ⌝ }
+    {
+        DQuat::from_vec4(self.to_vec4().mul_scalar(rhs))
+    }
+
+    // The original's `self / rhs` with a number.
+    pub fn div_scalar(self, rhs: f64) -> DQuat
+        ensures { λ r. ⌜ parts r ≡ V.over4 (parts self) rhs ⌝ }
+    {
+        DQuat::from_vec4(self.to_vec4().div_scalar(rhs))
+    }
+
+    // The original's `-self`.
+    pub fn neg(self) -> DQuat
+        ensures { λ r. ⌜ parts r ≡ scale floats (parts self) minus-one ⌝ }
+    {
+        self.mul_scalar(-1.0)
+    }
+}
+
+// What turns a quaternion away, as an argument of a call.
+impl DQuat {
+    pub(crate) fn check_finite(self, argument: u8) -> Result<(), NumberFault>
+        ensures { λ r. ⌜ r ≡ answer (finite-fault4 argument (parts self)) tt ⌝ }
+    {
+        if self.is_finite() {
+            Ok(())
+        } else {
+            Err(NumberFault::NotFinite(argument))
+        }
+    }
+
+    pub(crate) fn check_normalized(self, argument: u8) -> Result<(), RotationFault>
+        ensures { λ r. ⌜ r ≡ answer (length-fault4 argument (parts self)) tt ⌝ }
+    {
+        if self.is_normalized() {
+            Ok(())
+        } else {
+            Err(RotationFault::NotNormalized(argument))
+        }
     }
 }

@@ -2,7 +2,7 @@
 ghost use mathlib.Core.Path.{_≡_};
 ghost use Rattle.rounding.specs.Value.{floats};
 ghost use Rattle.quaternion.specs.Quaternions.{parts};
-ghost use Rattle.quaternion.specs.Euler.{euler-fault, from-euler, by-order, angle, parity, assembled};
+ghost use Rattle.quaternion.specs.Euler.{euler-fault, from-euler, by-order, angle, parity, signed, assembled};
 use crate::DQuat;
 use euler::EulerRot;
 use euler::FromEuler;
@@ -40,12 +40,18 @@ fn from_halves(order: Order, first: (f64, f64), middle: (f64, f64), last: (f64, 
     DQuat::from_array(a)
 }
 
+fn signed(even: bool, angle: f64) -> f64
+    ensures { λ r. ⌜ r ≡ signed even angle ⌝ }
+{
+    if even { -angle } else { angle }
+}
+
 // With Ex the angles are read backwards; the middle one is taken at the opposite where the parity is even.
 fn by_order(order: Order, x: f64, y: f64, z: f64) -> DQuat
     ensures { λ r. ⌜ parts r ≡ by-order order x y z ⌝ }
 {
     let (first, last) = if order.frame_static { (x, z) } else { (z, x) };
-    let middle = if order.parity_even { -y } else { y };
+    let middle = signed(order.parity_even, y);
     from_halves(
         order,
         sin_cos_raw(first * 0.5),
