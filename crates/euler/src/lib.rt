@@ -77,11 +77,11 @@ impl EulerRot {
         }
     }
 
-    // The original's default: YXZ as yaw (y-axis), pitch (x-axis), roll (z-axis).
+    // The original's default.
     pub fn default_order() -> EulerRot
         ensures { λ r. ⌜ r ≡ YXZ ⌝ }
     {
-        EulerRot::YXZ
+        EulerRot::YXZ // yaw, pitch, roll
     }
 
     pub fn name(self) -> &'static str
