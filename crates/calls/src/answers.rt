@@ -11,7 +11,7 @@ use vectors::DVec3;
 use vectors::DVec4;
 
 #[derive(Clone, Copy)]
-pub enum Answer {
+pub(crate) enum Answer {
     Unknown,
     Refused(u8),
     Flag(bool),
@@ -26,63 +26,63 @@ pub enum Answer {
 }
 
 impl Answer {
-    pub fn number(r: Result<f64, NumberFault>) -> Answer {
+    pub(crate) fn number(r: Result<f64, NumberFault>) -> Answer {
         match r {
             Ok(x) => Answer::One(x),
             Err(fault) => Answer::Refused(fault.number()),
         }
     }
 
-    pub fn one(r: Result<f64, RotationFault>) -> Answer {
+    pub(crate) fn one(r: Result<f64, RotationFault>) -> Answer {
         match r {
             Ok(x) => Answer::One(x),
             Err(fault) => Answer::Refused(fault.number()),
         }
     }
 
-    pub fn angles(r: Result<(f64, f64, f64), RotationFault>) -> Answer {
+    pub(crate) fn angles(r: Result<(f64, f64, f64), RotationFault>) -> Answer {
         match r {
             Ok((a, b, c)) => Answer::Three(DVec3::new(a, b, c)),
             Err(fault) => Answer::Refused(fault.number()),
         }
     }
 
-    pub fn three(r: Result<DVec3, RotationFault>) -> Answer {
+    pub(crate) fn three(r: Result<DVec3, RotationFault>) -> Answer {
         match r {
             Ok(v) => Answer::Three(v),
             Err(fault) => Answer::Refused(fault.number()),
         }
     }
 
-    pub fn axis_angle(r: Result<(DVec3, f64), RotationFault>) -> Answer {
+    pub(crate) fn axis_angle(r: Result<(DVec3, f64), RotationFault>) -> Answer {
         match r {
             Ok((v, a)) => Answer::Four(DVec4::new(v.x, v.y, v.z, a)),
             Err(fault) => Answer::Refused(fault.number()),
         }
     }
 
-    pub fn four(r: Result<DVec4, RotationFault>) -> Answer {
+    pub(crate) fn four(r: Result<DVec4, RotationFault>) -> Answer {
         match r {
             Ok(v) => Answer::Four(v),
             Err(fault) => Answer::Refused(fault.number()),
         }
     }
 
-    pub fn rotation(r: Result<DQuat, RotationFault>) -> Answer {
+    pub(crate) fn rotation(r: Result<DQuat, RotationFault>) -> Answer {
         match r {
             Ok(q) => Answer::Four(q.to_vec4()),
             Err(fault) => Answer::Refused(fault.number()),
         }
     }
 
-    pub fn matrix(r: Result<DMat3, RotationFault>) -> Answer {
+    pub(crate) fn matrix(r: Result<DMat3, RotationFault>) -> Answer {
         match r {
             Ok(m) => Answer::Nine(m),
             Err(fault) => Answer::Refused(fault.number()),
         }
     }
 
-    pub fn flag(r: Result<bool, RotationFault>) -> Answer {
+    pub(crate) fn flag(r: Result<bool, RotationFault>) -> Answer {
         match r {
             Ok(b) => Answer::Flag(b),
             Err(fault) => Answer::Refused(fault.number()),
@@ -139,7 +139,7 @@ fn put_numbers(text: &mut String, answer: Answer, heap: Global) -> Result<(), Al
     }
 }
 
-pub fn shown(heap: Global, answer: Answer) -> Result<String, AllocError> {
+pub(crate) fn shown(heap: Global, answer: Answer) -> Result<String, AllocError> {
     match answer {
         Answer::Refused(n) => format!(heap, "REFUSED {n}"),
         Answer::Count(n) => format!(heap, "{n}"),

@@ -9,7 +9,7 @@ use numeric::sin;
 use numeric::sin_cos;
 use numeric::sqrt;
 
-pub fn call(name: &str, words: &mut Arguments<'_>) -> Answer {
+pub(crate) fn call(name: &str, words: &mut Arguments<'_>) -> Answer {
     match name {
         "math.sin" => Answer::number(sin(words.f())),
         "math.cos" => Answer::number(cos(words.f())),

@@ -4,7 +4,7 @@ use crate::arguments::Arguments;
 use quaternion::DQuat;
 use quaternion::DQuatPartialEq;
 
-pub fn call(name: &str, words: &mut Arguments<'_>) -> Answer {
+pub(crate) fn call(name: &str, words: &mut Arguments<'_>) -> Answer {
     match made(name, words) {
         Answer::Unknown => {}
         found => return found,

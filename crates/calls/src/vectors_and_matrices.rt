@@ -5,7 +5,7 @@ use matrix::DMat3;
 use quaternion::DMat3FromQuat;
 use quaternion::FromQuat;
 
-pub fn call(name: &str, words: &mut Arguments<'_>) -> Answer {
+pub(crate) fn call(name: &str, words: &mut Arguments<'_>) -> Answer {
     match matrix(name, words) {
         Answer::Unknown => {}
         found => return found,

@@ -27,7 +27,7 @@ use Rattle.rounding.proofs.Stated.{either}
 use Rattle.numeric.specs.Floats.{bits}
 use Rattle.numeric.specs.ArcTangent.{zero, atan2-float}
 use Rattle.numeric.specs.Laws.{_<ᶠ_, Is-angle, Angle-law}
-use Rattle.numeric.proofs.Numbers.{opposite}
+use Rattle.numeric.proofs.Numbers.{fixed, opposite, in-magnitude}
 use Rattle.numeric.proofs.Small.{small-near, small-sine}
 use Rattle.numeric.proofs.Pieces.{by-cond}
 use Rattle.numeric.proofs.Octants.{Slope, Faces, aside-near, behind, faces-mirror, faces-near, faces-at, in-all, Up, angle-up-is}
@@ -48,7 +48,7 @@ module _ (t : Float) {θ : Float} {m x y : ℚ} (s : Slope θ m x) (lo : 2⁻ 60
 
 -- ---- |y|, by its square
 
-abbrev ∣_∣ : Float → ℚ
+abbrev pub ∣_∣ : Float → ℚ
 ∣ y ∣ = cls (magnitude (val y))
 
 0≤∣∣ : (y : Float) → 0# ≤ ∣ y ∣
@@ -63,24 +63,22 @@ unfolding computes
 
 -- ---- the law over rational numbers
 
-record Turned (t y x : Float) : Type 0 where
-  is : Is t
-  size : # t within cls (pos 63 over 20)
-  faces : 0# < # x * # x + # y * # y → Faces (exact (val t)) (# y) (# x) (2⁻ 44) (cls (pos 1 over 128))
-  origin : # x * # x + # y * # y ≤ 0# → t ≡ bits 0
-  up : 0# < # y → 0# ≤ # t
-  down : # y < 0# → # t ≤ 0#
-  back : 0# ≤ # y → # x < 0# → 0# < # t
-  sharp : 0# < # x → 2⁻ 60 * # x ≤ ∣ y ∣ → ∣ y ∣ ≤ # x → # y * cls (cosine (val t)) - # x * cls (sine (val t)) within ∣ y ∣ * 2⁻ 44
+pub record Turned (t y x : Float) : Type 0 where
+  pub is : Is t
+  pub size : # t within cls (pos 63 over 20)
+  pub faces : 0# < # x * # x + # y * # y → Faces (exact (val t)) (# y) (# x) (2⁻ 44) (cls (pos 1 over 128))
+  pub origin : # x * # x + # y * # y ≤ 0# → t ≡ bits 0
+  pub up : 0# < # y → 0# ≤ # t
+  pub down : # y < 0# → # t ≤ 0#
+  pub back : 0# ≤ # y → # x < 0# → 0# < # t
+  pub sharp : 0# < # x → 2⁻ 60 * # x ≤ ∣ y ∣ → ∣ y ∣ ≤ # x → # y * cls (cosine (val t)) - # x * cls (sine (val t)) within ∣ y ∣ * 2⁻ 44
 
 -- 2⁻⁷³ twice more for the mirror
 in-44 : cls in-all + (2⁻ 73 + 2⁻ 73) ≤ 2⁻ 44
-unfolding computes
-in-44 = closed tt
+in-44 = fixed (con in-all ⊕ (con (part 73) ⊕ con (part 73)) ≼ con (part 44)) tt
 
 still-ahead : cls (pos 1 over 128) + (2⁻ 73 + 2⁻ 73) ≤ cls (pos 1 over 64)
-unfolding computes
-still-ahead = closed tt
+still-ahead = fixed (con (pos 1 over 128) ⊕ (con (part 73) ⊕ con (part 73)) ≼ con (pos 1 over 64)) tt
 
 upper : {t y x : Float} → 0# ≤ # y → Up t y x → Turned t y x
 upper {t} {y} {x} l u = record {
@@ -94,7 +92,7 @@ upper {t} {y} {x} l u = record {
   sharp = λ p lo hi.
       let e = ∣∣-is y l refl in
       let s = subst (λ m. Slope t m (# x)) e (u .sharp p (≤-trans (≤-of e) hi)) in
-      sharp-near t s lo (within-at (sym e) (within-self (0≤∣∣ y))) (within-self (u .low)) (subst (λ m. m * Cᵥ (# t) - # x * Sᵥ (# t) within ∣ y ∣ * (2⁻ 45 + 2⁻ 52) + # x * 2⁻ 1074) (sym e) (s .near));
+      sharp-near t s lo (in-magnitude (val y)) (within-self (u .low)) (subst (λ m. m * Cᵥ (# t) - # x * Sᵥ (# t) within ∣ y ∣ * (2⁻ 45 + 2⁻ 52) + # x * 2⁻ 1074) (sym e) (s .near));
 }
 
 module _ (y : Float) {t x : Float} (n : # y < 0#) (u : Up t (negᵍ y) x) where
@@ -119,14 +117,14 @@ module _ (y : Float) {t x : Float} (n : # y < 0#) (u : Up t (negᵍ y) x) where
     sharp = λ p lo hi.
         let s = subst (λ m. Slope t m (# x)) size-of-y (u .sharp p (≤-trans (≤-of size-of-y) hi)) in
         let y-is : neg ∣ y ∣ ≡ # y = opposite (sym size-of-y ∙ neg-value y) in
-        sharp-near (negᵍ t) s lo (within-at y-is (within-neg (within-self (0≤∣∣ y)))) (within-at (sym (neg-value t)) (within-neg (within-self (u .low))))
+        sharp-near (negᵍ t) s lo (in-magnitude (val y)) (within-at (sym (neg-value t)) (within-neg (within-self (u .low))))
         (within-at (ring (∣ y ∣ ▸ # x ▸ Sᵥ (# t) ▸ Cᵥ (# t) ▸ ∅) (λ m x s c. ⊖ (m ⊗ c ⊝ x ⊗ s) ≐ ⊖ m ⊗ c ⊝ x ⊗ ⊖ s) tt
         ∙ ap₂ (λ c s. neg ∣ y ∣ * c - # x * s) (sym (ap Cᵥ (neg-value t) ∙ C-even (# t))) (sym (ap Sᵥ (neg-value t) ∙ S-odd (# t))) ∙ ap (λ z. z * Cᵥ (# negᵍ t) - # x * Sᵥ (# negᵍ t)) y-is) (within-neg (s .near)));
   }
 
 -- ---- as fractions
 
-turned : (y x : Float) → Is y → Is x → Turned (atan2-float y x) y x
+pub turned : (y x : Float) → Is y → Is x → Turned (atan2-float y x) y x
 unfolding atan2-float
 turned y x i j = by-cond (λ t. Turned t y x) (lt y zero) (λ e. let n = lt-yes (own i) zero-exact e in lower y n (angle-up-is (neg-is i) j (≤-of-< (behind y n))))
     (λ e. let l = lt-no (own i) zero-exact e in upper l (angle-up-is i j l))

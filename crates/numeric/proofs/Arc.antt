@@ -161,11 +161,12 @@ arc-size {u} {w} h k = within-≤ (within-at (ring (u ▸ nest (u * u) (third �
 
 -- ---- the kernel
 
--- of each step of Horner's rule
+-- of each step of Horner's rule: coefficients of 1/3 at most, literals within 2⁻⁵⁵ of them, results of 1/2 at most and within 2⁻⁵³
 abbrev step : Bounds
 step = record { k = third; d = part 55; m = pos 1 over 2; e = part 53 }
 
 module _ {u : Float} {w : ℚ} (i : Is u) (h : # u within w) (low : 2⁻ 100 ≤ w) (high : w ≤ 2⁻ 3) where
+  -- 2⁻⁵³ for the last difference, and some 2⁻⁵⁸ for what it takes away
   pub kernel-near : Rounds (atan-kernel u) (arc (# u)) (w * 2⁻ 52)
   unfolding computes ofBits fits arc
   kernel-near = odd-near step (part 3) (part 52) tt i h low high (bits 0x3FD5_5555_5555_5555) odd-parts third (over-each odd-numbers) tt
@@ -199,7 +200,7 @@ over-eighth = pos 19 over 20
 pub over-one : {x : ℚ} → x within cls over-eighth → x within 1#
 over-one h = within-≤ h (known-≤ tt)
 
--- t is the angle whose tangent is q, for a q from 0 to 1
+-- t is the angle whose tangent is q, for a q from 0 to 1: within a share of 2⁻⁴⁵, for the pieces; 2⁻⁵⁰ would do for the series
 pub record Aims (t : Float) (q : ℚ) : Type 0 where
   pub is : Is t
   pub low : 0# ≤ # t

@@ -3,12 +3,12 @@ use mathlib.Core.Path.{_≡_, refl, sym, ap, _∙_, subst}
 use lib.IntN.{pos}
 use lib.Ieee.{Float, lt, ofBits, fits}
 use lib.Ieee.{neg as negᵍ}
-use Rattle.exact.specs.Fraction.{whole, part, _+ᶠ_, _*ᶠ_}
+use Rattle.exact.specs.Fraction.{whole, part, _+ᶠ_}
 use Rattle.exact.proofs.Ring.{con, _⊕_, _⊗_, ⊖_, _⊝_}
 use Rattle.exact.proofs.Rational.{ℚ, cls, _+_, _*_, neg, _-_, ∅, _▸_, _≐_, ring}
 use Rattle.exact.proofs.Order.{_≤_, squared, number, _⊞_, _⊠_, _≼_, _by_, _⇒_, to-frac}
 use Rattle.exact.proofs.Order.{le as by-cert}
-use Rattle.exact.proofs.Within.{0#, 1#, 0ₑ, 1ₑ, num, 2⁻, computes, closed, ≤-refl, ≤-trans, ≤-of, ≤-*, 0≤*, _within_, within-+, within-≤, within-at, within-self, _≈⟨_⟩_, near, apart, near-at, near-≤, near-*, near-trans, <-not}
+use Rattle.exact.proofs.Within.{0#, 1#, 0ₑ, 1ₑ, num, 2⁻, computes, ≤-refl, ≤-trans, ≤-of, ≤-*, 0≤*, _within_, within-+, within-≤, within-neg, within-at, within-self, _≈⟨_⟩_, near, apart, near-at, near-≤, near-*, near-trans, <-not}
 use Rattle.exact.proofs.Distance.{size, close-back}
 use Rattle.rounding.specs.Value.{L, Is}
 use Rattle.rounding.specs.Theorems.{limit}
@@ -40,7 +40,7 @@ one-size : 1# within 1#
 one-size = within-self (known-≤ tt)
 
 unit-size : {f : Float} → Is f → Unit-size (in-unit f)
-unit-size {f} i = by-cond Unit-size (lt f (negᵍ one)) (λ e. record { is = minus-one .is; size = within-at (sym (minus-one .value)) (record { up = one-size .down; down = by-cert ∅ (⊖ ⊖ 1ₑ ≼ 1ₑ by number (whole (pos 0))) tt }) })
+unit-size {f} i = by-cond Unit-size (lt f (negᵍ one)) (λ e. record { is = minus-one .is; size = within-at (sym (minus-one .value)) (within-neg one-size) })
     (λ e. by-cond Unit-size (lt one f) (λ d. record { is = one-exact .is; size = within-at (sym (one-exact .value)) one-size })
     (λ d. record { is = i; size = record { up = lt-no one-exact (own i) d; down = by-cert (# f ▸ ∅) (λ f. ⊖ 1ₑ ≼ f ⇒ λ h. ⊖ f ≼ 1ₑ by h) tt (lt-no (own i) minus-one e) } }))
 
@@ -55,8 +55,7 @@ unfolding ofBits fits
 four = literal-exact tt refl
 
 four-limit : num 4 ≤ cls limit
-unfolding computes
-four-limit = closed tt
+four-limit = known-≤ tt
 
 two-four : num 2 ≤ num 4
 two-four = known-≤ tt
@@ -99,15 +98,16 @@ module _ {g : Float} (u : Unit-size g) where
   unfolding pᵍ
   p-between = between four (≤-refl (num 4)) (product-nearest (left .is) (right .is)) nonneg most-four
 
-  -- three roundings of 2⁻⁵³
+  -- two roundings of 2⁻⁵³
+  sides-near : # (one ⊖ᵍ g) * # (one ⊕ᵍ g) ≈⟨ 2⁻ 52 + 2⁻ 106 ⟩ 1# - # g * # g
+  sides-near = near-at refl (ring (# g ▸ ∅) (λ g. (1ₑ ⊝ g) ⊗ (1ₑ ⊕ g) ≐ 1ₑ ⊝ g ⊗ g) tt) (near-≤ (near-* (left .near) (right .near) (within-self (left .nonneg)) (within-self (right .nonneg)))
+      (by-cert (# g ▸ ∅) (λ g. (1ₑ ⊝ g) ⊗ con (part 53) ⊗ ((1ₑ ⊕ g) ⊗ con (part 53)) ⊕ (1ₑ ⊝ g) ⊗ con (part 53) ⊗ (1ₑ ⊕ g) ⊕ (1ₑ ⊝ g) ⊗ ((1ₑ ⊕ g) ⊗ con (part 53)) ≼ con (part 52) ⊕ con (part 106) by number (part 52 +ᶠ part 106) ⊠ squared g) tt))
+
+  -- and one more
   p-near : # pᵍ ≈⟨ 2⁻ 51 ⟩ 1# - # g * # g
   unfolding pᵍ
-  p-near =
-      let n = near-* (left .near) (right .near) (within-self (left .nonneg)) (within-self (right .nonneg)) in
-      near-at refl (ring (# g ▸ ∅) (λ g. (1ₑ ⊝ g) ⊗ (1ₑ ⊕ g) ≐ 1ₑ ⊝ g ⊗ g) tt) (near-≤ (near-trans (product-rounds (left .is) (right .is) (within-self nonneg) (≤-trans most-four four-limit) .near) n)
-      (by-cert (# g ▸ (# (one ⊖ᵍ g) * # (one ⊕ᵍ g)) ▸ ∅) (λ g x. x ≼ (1ₑ ⊝ g) ⊗ (1ₑ ⊕ g) ⊕ ((1ₑ ⊝ g) ⊗ con (part 53) ⊗ ((1ₑ ⊕ g) ⊗ con (part 53)) ⊕ (1ₑ ⊝ g) ⊗ con (part 53) ⊗ (1ₑ ⊕ g) ⊕ (1ₑ ⊝ g) ⊗ ((1ₑ ⊕ g) ⊗ con (part 53))) ⇒ λ h.
-      x ⊗ con (part 53) ⊕ con (part 1075) ⊕ ((1ₑ ⊝ g) ⊗ con (part 53) ⊗ ((1ₑ ⊕ g) ⊗ con (part 53)) ⊕ (1ₑ ⊝ g) ⊗ con (part 53) ⊗ (1ₑ ⊕ g) ⊕ (1ₑ ⊝ g) ⊗ ((1ₑ ⊕ g) ⊗ con (part 53))) ≼ con (part 51)
-      by number (part 53) ⊠ h ⊞ number (whole (pos 3) *ᶠ (part 53 +ᶠ part 106) +ᶠ part 159) ⊠ squared g) tt (n .up)))
+  p-near = near-≤ (near-trans (product-rounds (left .is) (right .is) (within-self nonneg) (≤-trans most-four four-limit) .near) sides-near)
+      (by-cert (# g ▸ (# (one ⊖ᵍ g) * # (one ⊕ᵍ g)) ▸ ∅) (λ g x. x ≼ 1ₑ ⊝ g ⊗ g ⊕ (con (part 52) ⊕ con (part 106)) ⇒ λ h. x ⊗ con (part 53) ⊕ con (part 1075) ⊕ (con (part 52) ⊕ con (part 106)) ≼ con (part 51) by number (part 53) ⊠ (h ⊞ squared g)) tt (sides-near .up))
 
   root-of : Is (other-side g) × (0# ≤ # other-side g) × (# other-side g * # other-side g ≈⟨ # pᵍ * cls root-share ⟩ # pᵍ)
   unfolding pᵍ

@@ -23,16 +23,16 @@ use Rattle.numeric.proofs.Polynomials.{nest, most, most-is, Bounds, even-near,
 -- ---- the exact series by Horner's rule
 
 -- 1/n! for each n
-abbrev pub inverses : List ℕ → List Frac
+abbrev inverses : List ℕ → List Frac
 inverses [] = []
 inverses (n ∷ ns) = pos 1 over factorial n ∷ inverses ns
 
 -- each number is 2 more than the one before
-abbrev pub by-two : ℕ → List ℕ → Bool
+abbrev by-two : ℕ → List ℕ → Bool
 by-two n [] = true
 by-two n (m ∷ ms) = eqb m (suc (suc n)) && by-two m ms
 
-pub alt-nest : (x : ℚ) (n : ℕ) (ns : List ℕ) → T (by-two n ns) → alt x (n ∷ ns) ≡ pow x n * nest (x * x) (inverses (n ∷ ns))
+alt-nest : (x : ℚ) (n : ℕ) (ns : List ℕ) → T (by-two n ns) → alt x (n ∷ ns) ≡ pow x n * nest (x * x) (inverses (n ∷ ns))
 unfolding alt nest
 alt-nest x n [] t = ring (pow x n ▸ cls (pos 1 over factorial n) ▸ x ▸ ∅) (λ p i x. p ⊗ i ⊝ 0ₑ ≐ p ⊗ (i ⊝ x ⊗ x ⊗ 0ₑ)) tt
 alt-nest x n (m ∷ ms) t = ap (λ v. pow x n * cls (pos 1 over factorial n) - v) (alt-nest x m ms (and-r (eqb m (suc (suc n))) _ t) ∙ ap (λ v. v * nest (x * x) (inverses (m ∷ ms))) two)

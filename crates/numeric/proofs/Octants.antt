@@ -28,7 +28,7 @@ use Rattle.rounding.proofs.Approx.{known-≤}
 use Rattle.numeric.specs.Floats.{_⊘_, bits}
 use Rattle.numeric.specs.Floats.{_⊕_ as _⊕ᵍ_, _⊖_ as _⊖ᵍ_}
 use Rattle.numeric.specs.ArcTangent.{zero, atan-unit, quarter-turn, half-turn, angle-up}
-use Rattle.numeric.proofs.Numbers.{opposite}
+use Rattle.numeric.proofs.Numbers.{fixed, opposite}
 use Rattle.numeric.proofs.Arc.{off, over-eighth, over-one}
 use Rattle.numeric.proofs.Pieces.{⁶⁵⁄₆₄, wave-in, by-cond, unit-aims}
 
@@ -44,7 +44,9 @@ pub record Slope (t : Float) (m M : ℚ) : Type 0 where
   pub above : 0# < M
   -- 2⁻⁴⁵ of the tangent and 2⁻⁵² for the rounding of the quotient; and what it loses below the normal range
   pub near : m * Cᵥ (# t) - M * Sᵥ (# t) within m * (2⁻ 45 + 2⁻ 52) + M * 2⁻ 1074
+  -- 1 − 19/20, and less
   pub ahead : M * cls (pos 1 over 32) ≤ m * Sᵥ (# t) + M * Cᵥ (# t)
+  -- 8 for the tangent, and the rounding of the quotient
   pub small : # t * M ≤ num 9 * m + M * 2⁻ 1072
 
 -- C(θ) is at least 1 − θ, less 2⁻⁶⁸ θ
@@ -178,17 +180,15 @@ slope-faces {t} {m} {M} h = record {
 
 -- k of them leave about l of t: 2⁻⁵⁰ for l, and 2⁻⁷³ for their number
 turned-near : (t : Frac) (k : ℤ) {l : ℚ} → l within cls over-eighth → left (cls t) k - l within 2⁻ 50 → exact t ≋⟨ 2⁻ 49 ⟩ quarters k (wave l)
-unfolding computes
-turned-near t k {l} h d = ≋-≤ (≋-trans (≋-sym (exact-any t k l-in)) (quarters-near k (wave-steady l (left (cls t) k) (2⁻ 50) (over-one h) l-in d))) (closed tt)
+turned-near t k {l} h d = ≋-≤ (≋-trans (≋-sym (exact-any t k l-in)) (quarters-near k (wave-steady l (left (cls t) k) (2⁻ 50) (over-one h) l-in d))) (fixed (con (part 73) ⊕ con (part 50) ⊗ (1ₑ ⊕ con (part 68)) ≼ con (part 49)) tt)
   where
     l-in : left (cls t) k within 1#
-    l-in = within-≤ (within-at (ring (l ▸ left (cls t) k ▸ ∅) (λ l m. l ⊕ (m ⊝ l) ≐ m) tt) (within-+ h d)) (closed tt)
+    l-in = within-≤ (within-at (ring (l ▸ left (cls t) k ▸ ∅) (λ l m. l ⊕ (m ⊝ l) ≐ m) tt) (within-+ h d)) (fixed (con over-eighth ⊕ con (part 50) ≼ 1ₑ) tt)
 
 turned-faces : (t : Frac) (k : ℤ) {l y x : ℚ} → l within cls over-eighth → left (cls t) k - l within 2⁻ 50 → Faces (quarters k (wave l)) y x (cls at-first) (cls (pos 1 over 32)) → Faces (exact t) y x (cls in-all) (cls (pos 1 over 64))
-unfolding computes
-turned-faces t k h d f = faces-near (turned-near t k h d) (closed tt) (closed tt) f
+turned-faces t k h d f = faces-near (turned-near t k h d) (fixed (con at-first ⊕ (con (part 49) ⊕ con (part 49)) ≼ con in-all) tt) (fixed (con (pos 1 over 64) ⊕ (con (part 49) ⊕ con (part 49)) ≼ con (pos 1 over 32)) tt) f
 
--- t is the angle of (x, y)
+-- t is the angle of (x, y), where y is not below 0
 pub record Up (t y x : Float) : Type 0 where
   pub is : Is t
   pub low : 0# ≤ # t
@@ -212,6 +212,10 @@ one-turn : Turn quarter-turn (pos 1)
 unfolding computes ofBits fits
 one-turn = record { near = literal tt (record { up = closed tt; down = closed tt }); low = closed tt; size = record { up = closed tt; down = closed tt } }
 
+three-eighths : # quarter-turn + cls over-eighth ≤ cls over-half
+unfolding computes ofBits
+three-eighths = closed tt
+
 two-turns : Turn half-turn (pos 2)
 unfolding computes ofBits fits
 two-turns = record { near = literal tt (record { up = closed tt; down = closed tt }); low = closed tt; size = record { up = closed tt; down = closed tt } }
@@ -219,8 +223,7 @@ two-turns = record { near = literal tt (record { up = closed tt; down = closed t
 -- t is c + l, rounded once: below 5 in size
 module _ (k : ℤ) {t c : Float} {l : ℚ} (h : Rounds t (# c + l) (num 5 * 2⁻ 53)) (turn : Turn c k) (hl : l within cls over-eighth) where
   left-near : left (# t) k - l within 2⁻ 50
-  unfolding computes
-  left-near = within-≤ (within-at (ring (# t ▸ # c ▸ l ▸ cls (whole k) ▸ ∅) (λ t c l k. t ⊝ (c ⊕ l) ⊕ (c ⊝ k ⊗ con quarter) ≐ t ⊝ k ⊗ con quarter ⊝ l) tt) (within-+ (apart (h .near)) (apart (turn .near .near)))) (closed tt)
+  left-near = within-≤ (within-at (ring (# t ▸ # c ▸ l ▸ cls (whole k) ▸ ∅) (λ t c l k. t ⊝ (c ⊕ l) ⊕ (c ⊝ k ⊗ con quarter) ≐ t ⊝ k ⊗ con quarter ⊝ l) tt) (within-+ (apart (h .near)) (apart (turn .near .near)))) (fixed (con (whole (pos 5)) ⊗ con (part 53) ⊕ con (part 52) ≼ con (part 50)) tt)
 
   half-more : cls (pos 1 over 2) ≤ # t
   half-more = by-cert (# t ▸ # c ▸ l ▸ ∅) (λ t c l. c ⊕ l ≼ t ⊕ con (whole (pos 5)) ⊗ con (part 53) ⇒ λ h. con (pos 3 over 2) ≼ c ⇒ λ k. ⊖ l ≼ con over-eighth ⇒ λ m. con (pos 1 over 2) ≼ t by h ⊞ k ⊞ m) tt (h .near .down) (turn .low) (hl .down)
@@ -240,12 +243,10 @@ module _ (k : ℤ) {t c : Float} {l : ℚ} (h : Rounds t (# c + l) (num 5 * 2⁻
       }
 
 five : cls over-half + cls over-eighth ≤ num 5
-unfolding computes
-five = closed tt
+five = fixed (con over-half ⊕ con over-eighth ≼ con (whole (pos 5))) tt
 
 five-limit : num 5 ≤ cls limit
-unfolding computes
-five-limit = closed tt
+five-limit = known-≤ tt
 
 slope-in : {t : Float} {m M : ℚ} → Slope t m M → # t within cls over-eighth
 slope-in s = within-≤ (within-self (s .low)) (s .high)
@@ -293,10 +294,10 @@ module _ {y x : Float} (i : Is y) (j : Is x) (0≤y : 0# ≤ # y) where
 
   -- 0 < −x < y
   third : # x < 0# → # negᵍ x < # y → Up (quarter-turn ⊕ᵍ atan-unit (negᵍ x ⊘ y)) y x
-  unfolding quarters computes ofBits
+  unfolding quarters
   third n h =
       let s = slope (neg-is j) i (not-≤ (λ k. <-not h (≤-trans k (≤-of-< (behind x n))))) (≤-of-< (behind x n)) (≤-of-< h) in
-      turn-plus (pos 1) one-turn s (λ p k. <-not n (≤-of-< p)) (faces-at refl refl (opposite (neg-value x)) (faces-ahead (slope-faces s))) (≤-trans (≤-+ (≤-refl (# quarter-turn)) (s .high)) (closed tt))
+      turn-plus (pos 1) one-turn s (λ p k. <-not n (≤-of-< p)) (faces-at refl refl (opposite (neg-value x)) (faces-ahead (slope-faces s))) (≤-trans (≤-+ (≤-refl (# quarter-turn)) (s .high)) three-eighths)
 
   -- 0 ≤ y ≤ −x
   fourth : # x < 0# → # y ≤ # negᵍ x → Up (half-turn ⊖ᵍ atan-unit (y ⊘ negᵍ x)) y x

@@ -83,8 +83,10 @@ record Piece (lo hi b a : Float) : Type 0 where
   beyond : # hi ≤ # b + 2⁻ 3
   b-low : 2⁻ 2 ≤ # b
   b-high : # b ≤ 1#
+  -- the least a is 0.2449…
   a-low : cls (pos 6 over 25) ≤ # a
   a-high : # a ≤ cls eighth
+  -- 2⁻⁵⁴ for the rounding of a, times √(1 + b²)
   tangent : off (# b) (wave (# a)) within 2⁻ 52
 
 abbrev is-finite : Float → Bool
@@ -121,14 +123,6 @@ one-in = within-at (sym (one-exact .value)) (within-self (known-≤ tt))
 divisor : {q b : Float} → Is q → Is b → # q within 1# → # b within 1# → Approx (one ⊕ᵍ q ⊗ᵍ b) (1# + # q * # b) (whole (pos 3)) (part 51)
 divisor {q} {b} i j h k = same (ap (λ o. o + # q * # b) (one-exact .value)) (analyse (itself i h ⊳ itself j k ⊳ itself (one-exact .is) one-in ⊳ ∎) (λ q b o. o ⟨+⟩ q ⟨*⟩ b) tt)
 
-eighth-limit : 2⁻ 3 ≤ cls limit * cls (pos 129 over 128)
-unfolding computes
-eighth-limit = closed tt
-
-one-limit : 1# ≤ cls limit
-unfolding computes
-one-limit = closed tt
-
 module _ {lo hi b a q : Float} (p : Piece lo hi b a) (i : Is q) (l : # lo ≤ # q) (h : # q ≤ # hi) where
   q-low : 2⁻ 3 ≤ # q
   q-low = ≤-trans (p .low) l
@@ -163,7 +157,7 @@ module _ {lo hi b a q : Float} (p : Piece lo hi b a) (i : Is q) (l : # lo ≤ # 
 
   u-near : Is uᵍ × (# uᵍ * # (one ⊕ᵍ q ⊗ᵍ b) ≈⟨ 2⁻ 3 * 2⁻ 53 + num 3 * 2⁻ 1075 ⟩ # (q ⊖ᵍ b))
   unfolding uᵍ
-  u-near = quotient-above (pos 129 over 128) tt (d .is) (n .rounds .is) n-low d-in (n .size) eighth-limit
+  u-near = quotient-above (pos 129 over 128) tt (d .is) (n .rounds .is) n-low d-in (n .size) (fixed (con (part 3) ≼ con limit ⊗ con (pos 129 over 128)) tt)
 
   u-in : # uᵍ within 2⁻ 3
   u-in = within-≤ (within-over (pos 129 over 128) tt (near-size (u-near .1) d-in) n-low)
@@ -196,7 +190,7 @@ module _ {lo hi b a q : Float} (p : Piece lo hi b a) (i : Is q) (l : # lo ≤ # 
   unfolding wᵍ
   w-tangent = within-≤ (kernel-off (u-near .0) u-in far-up (≤-refl (2⁻ 3))) (≤-of (ring ∅ (con (part 3) ⊗ con (part 50) ≐ con (part 53)) tt))
 
-  -- the sum
+  -- P/4 and 1/7
   sum-in : # a + # wᵍ within cls (pos 93 over 100)
   sum-in = within-≤ (within-+ (within-≤ (within-self (≤-trans (known-≤ tt) (p .a-low))) (p .a-high)) w-in) (fixed (con eighth ⊕ con (pos 1 over 7) ≼ con (pos 93 over 100)) tt)
 
@@ -204,7 +198,7 @@ module _ {lo hi b a q : Float} (p : Piece lo hi b a) (i : Is q) (l : # lo ≤ # 
   sum-one = within-≤ sum-in (known-≤ tt)
 
   t-near : Rounds (a ⊕ᵍ wᵍ) (# a + # wᵍ) (2⁻ 53)
-  t-near = rounds-≤ (sum-rounds (p .is-a) w-is sum-one one-limit) (≤-of (ring ∅ (1ₑ ⊗ con (part 53) ≐ con (part 53)) tt))
+  t-near = rounds-≤ (sum-rounds (p .is-a) w-is sum-one (known-≤ tt)) (≤-of (ring ∅ (1ₑ ⊗ con (part 53) ≐ con (part 53)) tt))
 
   t-high : # (a ⊕ᵍ wᵍ) within cls over-eighth
   t-high = within-≤ (near-size (t-near .near) sum-in) (fixed (con (pos 93 over 100) ⊕ con (part 53) ≼ con over-eighth) tt)

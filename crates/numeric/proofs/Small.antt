@@ -1,8 +1,7 @@
 -- The exact sine and cosine of an angle of at most 1 in size: S and C themselves up to 2^-73, and the sine up to a share of 2^-72 of the angle.
 use mathlib.Core.Path.{_≡_, refl, sym, _∙_, ap}
-use mathlib.Core.Logic.{_⊎_, inl, inr}
+use mathlib.Core.Logic.{inl, inr}
 use Prim.Native.Nat as N
-use Prim.Native.Nat.{ℕ}
 use native.Mathlib.Omega.{arith}
 use lib.Dec.{leb→le}
 use lib.IntN.{ℤ, pos, negsuc, natAbs}
@@ -46,8 +45,7 @@ none-nearest v h = exact-is v ∙ ap (wave-by (cls v)) (below-one (turns v) (wit
 
 -- from 1/2 on 2^-73 is a share of 2^-72 at most
 pub small-sine : (v : Frac) {w : ℚ} → cls v within w → w ≤ 1# → cls (sine v) ≈⟨ w * 2⁻ 72 ⟩ Sᵥ (cls v)
-small-sine v {w} h l = go (total w (cls half))
-  where
-    go : (w ≤ cls half) ⊎ (cls half ≤ w) → cls (sine v) ≈⟨ w * 2⁻ 72 ⟩ Sᵥ (cls v)
-    go (inl k) = near-at (ap (λ p. p .s) (sym (none-nearest v (within-≤ h k)))) refl (near-self (Sᵥ (cls v)) (0≤* (within-nonneg h) (0≤part 72)))
-    go (inr k) = near-≤ (small-near v (within-≤ h l) .of-s) (le (w ▸ ∅) (λ w. con half ≼ w ⇒ λ k. con (part 73) ≼ w ⊗ con (part 72) by number (part 72) ⊠ k) tt k)
+small-sine v {w} h l = elim (total w (cls half)) [
+  | inl k ↦ near-at (ap (λ p. p .s) (sym (none-nearest v (within-≤ h k)))) refl (near-self (Sᵥ (cls v)) (0≤* (within-nonneg h) (0≤part 72)))
+  | inr k ↦ near-≤ (small-near v (within-≤ h l) .of-s) (le (w ▸ ∅) (λ w. con half ≼ w ⇒ λ k. con (part 73) ≼ w ⊗ con (part 72) by number (part 72) ⊠ k) tt k)
+]

@@ -1,6 +1,6 @@
 -- Sine and cosine of an angle that is not negative: the kernels at what the quarter turns leave, turned on by as many.
 use mathlib.Core.Path.{_≡_, refl, sym, ap, ap₂}
-use mathlib.Core.Logic.{_⊎_, inl, inr}
+use mathlib.Core.Logic.{inl, inr}
 use Prim.Native.Nat as N
 use Prim.Native.Nat.{ℕ, zero, suc}
 use lib.IntN.{pos}
@@ -87,9 +87,8 @@ module _ {a : Float} (i : Is a) (0≤a : 0# ≤ # a) (a≤ : # a ≤ num 1000) w
 
   -- from there on 2^-47 and 2^-73 are less than 3/4 · 2^-45
   pub upward-sharp : {w : ℚ} → 2⁻ 27 ≤ # a → # a within w → w ≤ 1# → # (upward a .0) ≈⟨ w * 2⁻ 45 ⟩ Sᵥ (# a)
-  upward-sharp {w} low h one = go (total (# a) (cls (pos 3 over 4)))
-    where
-      go : (# a ≤ cls (pos 3 over 4)) ⊎ (cls (pos 3 over 4) ≤ # a) → # (upward a .0) ≈⟨ w * 2⁻ 45 ⟩ Sᵥ (# a)
-      go (inl l) = near-≤ (kernel-sharp low l) (le (# a ▸ w ▸ ∅) (λ a w. a ≼ w ⇒ λ h. 0ₑ ≼ w ⇒ λ k. a ⊗ con (part 48) ≼ w ⊗ con (part 45) by h ⊠ number (part 48) ⊞ k ⊠ number (part 45 -ᶠ part 48)) tt (h .up) (within-nonneg h))
-      go (inr l) = near-≤ (near-trans (upward-near .near .of-s) (small-near (val a) (within-≤ h one) .of-s))
-          (le (# a ▸ w ▸ ∅) (λ a w. con (pos 3 over 4) ≼ a ⇒ λ l. a ≼ w ⇒ λ h. con (part 47) ⊕ con (part 73) ≼ w ⊗ con (part 45) by number (part 45) ⊠ (l ⊞ h)) tt l (h .up))
+  upward-sharp {w} low h one = elim (total (# a) (cls (pos 3 over 4))) [
+    | inl l ↦ near-≤ (kernel-sharp low l) (le (# a ▸ w ▸ ∅) (λ a w. a ≼ w ⇒ λ h. 0ₑ ≼ w ⇒ λ k. a ⊗ con (part 48) ≼ w ⊗ con (part 45) by h ⊠ number (part 48) ⊞ k ⊠ number (part 45 -ᶠ part 48)) tt (h .up) (within-nonneg h))
+    | inr l ↦ near-≤ (near-trans (upward-near .near .of-s) (small-near (val a) (within-≤ h one) .of-s))
+        (le (# a ▸ w ▸ ∅) (λ a w. con (pos 3 over 4) ≼ a ⇒ λ l. a ≼ w ⇒ λ h. con (part 47) ⊕ con (part 73) ≼ w ⊗ con (part 45) by number (part 45) ⊠ (l ⊞ h)) tt l (h .up))
+  ]

@@ -2,7 +2,7 @@
 use mathlib.Core.Path.{_≡_}
 use lib.IntN.{pos}
 use lib.Ieee.{Float}
-use Rattle.exact.specs.Fraction.{Frac, _over_, whole, part, neg, _+ᶠ_, _-ᶠ_, _*ᶠ_, _≤ᶠ_}
+use Rattle.exact.specs.Fraction.{Frac, _over_, whole, part, _+ᶠ_, _-ᶠ_, _*ᶠ_, _≤ᶠ_}
 use Rattle.exact.specs.Distance.{Size, Close}
 use Rattle.exact.specs.Sine.{sine, cosine}
 use Rattle.rounding.specs.Value.{val, Is}
