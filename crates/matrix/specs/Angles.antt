@@ -8,12 +8,14 @@ use Rattle.std.specs.declared.option.Option.{Option}
 use Rattle.fault.specs.Answers.{within, _⨾_}
 use Rattle.fault.specs.declared.RotationFault.{RotationFault}
 use Rattle.fault.specs.declared.RotationFault.the-variants.{Number}
-use Rattle.numeric.specs.Floats.{_⊕_, _⊖_, _⊗_, bits}
+use Rattle.exact.specs.Quat.{Ops}
+use Rattle.exact.specs.Vector.{Vec, vec}
+use Rattle.rounding.specs.Value.{floats}
+use Rattle.numeric.specs.Floats.{_⊕_, _⊗_, bits}
 use Rattle.numeric.specs.Tests.{angle-fault}
 use Rattle.numeric.specs.Sine.{sin-float, cos-float}
 use Rattle.numeric.specs.ArcTangent.{atan2-float}
-use Rattle.vectors.specs.Vectors.{vec3}
-use Rattle.vectors.specs.declared.dvec3.DVec3.{DVec3}
+use Rattle.vectors.specs.Vectors.{vector}
 use Rattle.euler.specs.Orders.{order, index, second, other, angle-order}
 use Rattle.euler.specs.declared.Axis.{Axis}
 use Rattle.euler.specs.declared.Axis.the-variants.{X, Y, Z}
@@ -29,53 +31,58 @@ euler-fault x y z = within Number (angle-fault 1 x ⨾ angle-fault 2 y ⨾ angle
 -- ---- from angles
 
 -- nine numbers by the axes i, j and k: first the column, then the row
-pub record Nine : Type 0 where
-  pub ii : Float
-  pub ij : Float
-  pub ik : Float
-  pub ji : Float
-  pub jj : Float
-  pub jk : Float
-  pub ki : Float
-  pub kj : Float
-  pub kk : Float
+pub record Nine (A : Type 0) : Type 0 where
+  pub ii : A
+  pub ij : A
+  pub ik : A
+  pub ji : A
+  pub jj : A
+  pub jk : A
+  pub ki : A
+  pub kj : A
+  pub kk : A
 
--- from the sines and cosines of the three angles, where the last letter repeats the first, and where it does not
-abbrev pub nine : Bool → Float × Float → Float × Float → Float × Float → Nine
-nine true a b c = record {
-  ii = b .1;
-  ij = b .0 ⊗ a .0;
-  ik = b .0 ⊗ a .1;
-  ji = b .0 ⊗ c .0;
-  jj = neg (b .1) ⊗ (a .0 ⊗ c .0) ⊕ a .1 ⊗ c .1;
-  jk = neg (b .1) ⊗ (a .1 ⊗ c .0) ⊖ a .0 ⊗ c .1;
-  ki = neg (b .0) ⊗ c .1;
-  kj = b .1 ⊗ (a .0 ⊗ c .1) ⊕ a .1 ⊗ c .0;
-  kk = b .1 ⊗ (a .1 ⊗ c .1) ⊖ a .0 ⊗ c .0;
-}
-nine false a b c = record {
-  ii = b .1 ⊗ c .1;
-  ij = b .0 ⊗ (a .0 ⊗ c .1) ⊖ a .1 ⊗ c .0;
-  ik = b .0 ⊗ (a .1 ⊗ c .1) ⊕ a .0 ⊗ c .0;
-  ji = b .1 ⊗ c .0;
-  jj = b .0 ⊗ (a .0 ⊗ c .0) ⊕ a .1 ⊗ c .1;
-  jk = b .0 ⊗ (a .1 ⊗ c .0) ⊖ a .0 ⊗ c .1;
-  ki = neg (b .0);
-  kj = b .1 ⊗ a .0;
-  kk = b .1 ⊗ a .1;
-}
+module _ {A : Type 0} (O : Ops A) where
+  infixl 60 _+ᵒ_ _-ᵒ_
+  infixl 70 _*ᵒ_
+  open Ops O using (_+ᵒ_, _-ᵒ_, _*ᵒ_)
+
+  -- from the sines and cosines of the three angles, where the last letter repeats the first, and where it does not
+  abbrev pub nine : Bool → A × A → A × A → A × A → Nine A
+  nine true a b c = record {
+    ii = b .1;
+    ij = b .0 *ᵒ a .0;
+    ik = b .0 *ᵒ a .1;
+    ji = b .0 *ᵒ c .0;
+    jj = O .neg (b .1) *ᵒ (a .0 *ᵒ c .0) +ᵒ a .1 *ᵒ c .1;
+    jk = O .neg (b .1) *ᵒ (a .1 *ᵒ c .0) -ᵒ a .0 *ᵒ c .1;
+    ki = O .neg (b .0) *ᵒ c .1;
+    kj = b .1 *ᵒ (a .0 *ᵒ c .1) +ᵒ a .1 *ᵒ c .0;
+    kk = b .1 *ᵒ (a .1 *ᵒ c .1) -ᵒ a .0 *ᵒ c .0;
+  }
+  nine false a b c = record {
+    ii = b .1 *ᵒ c .1;
+    ij = b .0 *ᵒ (a .0 *ᵒ c .1) -ᵒ a .1 *ᵒ c .0;
+    ik = b .0 *ᵒ (a .1 *ᵒ c .1) +ᵒ a .0 *ᵒ c .0;
+    ji = b .1 *ᵒ c .0;
+    jj = b .0 *ᵒ (a .0 *ᵒ c .0) +ᵒ a .1 *ᵒ c .1;
+    jk = b .0 *ᵒ (a .1 *ᵒ c .0) -ᵒ a .0 *ᵒ c .1;
+    ki = O .neg (b .0);
+    kj = b .1 *ᵒ a .0;
+    kk = b .1 *ᵒ a .1;
+  }
 
 -- which of i, j and k an axis is
 abbrev pub pick : {A : Type 0} → Order → Axis → A → A → A → A
 pick o a i j k = cond (eqb (index a) (index (o .«initial_axis»))) i (cond (eqb (index a) (index (second o))) j k)
 
-abbrev pub placed-column : Order → Nine → Axis → DVec3
-placed-column o n c =
-    let row : Axis → Float = λ r. pick o c (pick o r (n .ii) (n .ij) (n .ik)) (pick o r (n .ji) (n .jj) (n .jk)) (pick o r (n .ki) (n .kj) (n .kk)) in
-    vec3 (row X) (row Y) (row Z)
+abbrev pub placed-column : {A : Type 0} → Order → Nine A → Axis → Vec A
+placed-column {A} o n c =
+    let row : Axis → A = λ r. pick o c (pick o r (n .ii) (n .ij) (n .ik)) (pick o r (n .ji) (n .jj) (n .jk)) (pick o r (n .ki) (n .kj) (n .kk)) in
+    vec (row X) (row Y) (row Z)
 
-abbrev pub placed : Order → Nine → DMat3
-placed o n = matrix (placed-column o n X) (placed-column o n Y) (placed-column o n Z)
+abbrev pub placed : Order → Nine Float → DMat3
+placed o n = matrix (vector (placed-column o n X)) (vector (placed-column o n Y)) (vector (placed-column o n Z))
 
 abbrev pub sin-cos : Float → Float × Float
 sin-cos t = (sin-float t, cos-float t)
@@ -88,7 +95,7 @@ unfoldable pub by-order : Order → Float → Float → Float → DMat3
 by-order o x y z =
     let ends : Float × Float = cond (o .«frame_static») (x, z) (z, x) in
     let even = o .«parity_even» in
-    placed o (nine (o .«initial_repeated») (sin-cos (signed even (ends .0))) (sin-cos (signed even y)) (sin-cos (signed even (ends .1))))
+    placed o (nine floats (o .«initial_repeated») (sin-cos (signed even (ends .0))) (sin-cos (signed even y)) (sin-cos (signed even (ends .1))))
 
 unfoldable pub from-euler : EulerRot → Float → Float → Float → DMat3
 from-euler n x y z = by-order (order n) x y z

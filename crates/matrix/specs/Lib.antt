@@ -1,2 +1,3 @@
 pub mod Matrices
 pub mod Angles
+pub mod EulerLaws

@@ -1,7 +1,10 @@
 // The matrix of an Euler order and three angles.
 ghost use mathlib.Core.Path.{_≡_};
+ghost use Rattle.std.specs.Vec.{made};
 ghost use Rattle.fault.specs.Answers.{answer};
+ghost use Rattle.rounding.specs.Value.{floats};
 ghost use Rattle.matrix.specs.Angles.{euler-fault, nine, placed, signed, by-order, from-euler};
+ghost use Rattle.matrix.specs.EulerLaws.{Is-euler-matrix};
 use crate::DMat3;
 use euler::EulerRot;
 use euler::FromEuler;
@@ -13,7 +16,7 @@ use numeric::sin_cos_raw;
 
 // From the sines and cosines of the angles, as they stand to the axes i, j and k.
 fn from_sines(order: Order, first: (f64, f64), middle: (f64, f64), last: (f64, f64)) -> DMat3
-    ensures { λ r. ⌜ r ≡ placed order (nine (order .«initial_repeated») first middle last) ⌝ }
+    ensures { λ r. ⌜ r ≡ placed order (nine floats (order .«initial_repeated») first middle last) ⌝ }
 {
     let (i, j, k) = order.angle_order();
     let (si, ci) = first;
@@ -86,7 +89,8 @@ pub impl FromEuler for DMat3 as DMat3FromEuler {
 impl DMat3 {
     // The matrix of an Euler order and three angles in radians.
     pub fn from_euler(order: EulerRot, a: f64, b: f64, c: f64) -> Result<DMat3, RotationFault>
-        ensures { λ r. ⌜ r ≡ answer (euler-fault a b c) (from-euler order a b c) ⌝ }
+        ensures value { λ r. ⌜ r ≡ answer (euler-fault a b c) (from-euler order a b c) ⌝ }
+        ensures near { λ r. ⌜ made r (λ m. Is-euler-matrix order a b c m) ⌝ }
     {
         DMat3FromEuler::from_euler_angles(order, a, b, c)
     }

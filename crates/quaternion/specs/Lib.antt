@@ -4,3 +4,6 @@ pub mod Interpolation
 pub mod Axes
 pub mod Matrices
 pub mod Sums
+pub mod Laws
+pub mod EulerLaws
+pub mod Drift

@@ -10,6 +10,11 @@ ghost use Rattle.rounding.specs.Value.{floats};
 ghost use Rattle.vectors.specs.Vectors as V;
 ghost use Rattle.quaternion.specs.Quaternions.{quat, parts, whole, listed, four-fault, Wrote, unit-fault4, near-identity, finite-fault4, length-fault4, minus-one, turn-fault, image-fault, about-x, about-y, about-z, two};
 ghost use Rattle.quaternion.specs.Euler.{euler-fault, from-euler};
+ghost use Rattle.std.specs.Vec.{made};
+ghost use Rattle.exact.specs.Turn as Turn;
+ghost use Rattle.numeric.specs.Laws.{Angle};
+ghost use Rattle.quaternion.specs.Laws.{Ample, Normalised, Is-product, Is-turn, Kept, Units, Is-image, Gives};
+ghost use Rattle.quaternion.specs.EulerLaws.{Is-euler-turn};
 use crate::euler_angles::DQuatFromEuler;
 use euler::EulerRot;
 use euler::FromEuler;
@@ -94,7 +99,8 @@ impl DQuat {
 
     // The turn about the x axis by `angle` in radians.
     pub fn from_rotation_x(angle: f64) -> Result<DQuat, RotationFault>
-        ensures { λ r. ⌜ r ≡ answer (turn-fault angle) (about-x angle) ⌝ }
+        ensures value { λ r. ⌜ r ≡ answer (turn-fault angle) (about-x angle) ⌝ }
+        ensures turn { λ r. ⌜ (Angle angle → Gives (λ q. Is-turn Turn.X angle (parts q)) r) ⌝ }
     {
         check_angle(0, angle)?;
         let (s, c) = sin_cos_raw(angle * 0.5);
@@ -103,7 +109,8 @@ impl DQuat {
 
     // The turn about the y axis by `angle` in radians.
     pub fn from_rotation_y(angle: f64) -> Result<DQuat, RotationFault>
-        ensures { λ r. ⌜ r ≡ answer (turn-fault angle) (about-y angle) ⌝ }
+        ensures value { λ r. ⌜ r ≡ answer (turn-fault angle) (about-y angle) ⌝ }
+        ensures turn { λ r. ⌜ (Angle angle → Gives (λ q. Is-turn Turn.Y angle (parts q)) r) ⌝ }
     {
         check_angle(0, angle)?;
         let (s, c) = sin_cos_raw(angle * 0.5);
@@ -112,7 +119,8 @@ impl DQuat {
 
     // The turn about the z axis by `angle` in radians.
     pub fn from_rotation_z(angle: f64) -> Result<DQuat, RotationFault>
-        ensures { λ r. ⌜ r ≡ answer (turn-fault angle) (about-z angle) ⌝ }
+        ensures value { λ r. ⌜ r ≡ answer (turn-fault angle) (about-z angle) ⌝ }
+        ensures turn { λ r. ⌜ (Angle angle → Gives (λ q. Is-turn Turn.Z angle (parts q)) r) ⌝ }
     {
         check_angle(0, angle)?;
         let (s, c) = sin_cos_raw(angle * 0.5);
@@ -121,7 +129,8 @@ impl DQuat {
 
     // The turn of an Euler order by three angles in radians.
     pub fn from_euler(euler: EulerRot, a: f64, b: f64, c: f64) -> Result<DQuat, RotationFault>
-        ensures { λ r. ⌜ r ≡ answer (euler-fault a b c) (from-euler euler a b c) ⌝ }
+        ensures value { λ r. ⌜ r ≡ answer (euler-fault a b c) (from-euler euler a b c) ⌝ }
+        ensures near { λ r. ⌜ made r (λ q. Is-euler-turn euler a b c (parts q)) ⌝ }
     {
         DQuatFromEuler::from_euler_angles(euler, a, b, c)
     }
@@ -184,7 +193,8 @@ impl DQuat {
 
     // `self` normalised to length 1.
     pub fn normalize(self) -> Result<DQuat, RotationFault>
-        ensures { λ r. ⌜ r ≡ answer (V.normal-fault (parts self)) (whole (V.normal (parts self))) ⌝ }
+        ensures value { λ r. ⌜ r ≡ answer (V.normal-fault (parts self)) (whole (V.normal (parts self))) ⌝ }
+        ensures unit { λ r. ⌜ (Ample (parts self) → Gives (λ n. Normalised (parts self) (parts n)) r) ⌝ }
     {
         let v = self.to_vec4().normalize()?;
         Ok(DQuat::from_vec4(v))
@@ -227,7 +237,8 @@ impl DQuat {
 
     // The rotation `rhs` followed by `self`.
     pub fn mul_quat(self, rhs: DQuat) -> DQuat
-        ensures { λ r. ⌜ parts r ≡ product floats (parts self) (parts rhs) ⌝ }
+        ensures value { λ r. ⌜ parts r ≡ product floats (parts self) (parts rhs) ⌝ }
+        ensures near { λ r. ⌜ Is-product (parts self) (parts rhs) (parts r) ⌝ }
     {
         let DQuat {
             x: x0,
@@ -251,7 +262,8 @@ impl DQuat {
 
     // The vector `rhs` rotated by `self`.
     pub fn mul_vec3(self, rhs: DVec3) -> Result<DVec3, RotationFault>
-        ensures { λ r. ⌜ r ≡ answer (image-fault (parts self) (V.parts rhs)) (V.vector (rotated floats two (parts self) (V.parts rhs))) ⌝ }
+        ensures value { λ r. ⌜ r ≡ answer (image-fault (parts self) (V.parts rhs)) (V.vector (rotated floats two (parts self) (V.parts rhs))) ⌝ }
+        ensures near { λ r. ⌜ (Kept (parts self) → Units (V.parts rhs) → Gives (λ v. Is-image (parts self) (V.parts rhs) (V.parts v)) r) ⌝ }
     {
         self.check_finite(0)?;
         if !rhs.is_finite() {

@@ -12,7 +12,7 @@ pub loop-i-again : need.loop-i-again
 loop-i-again c =
     let qs = c .args .quats .now in
     let none = quat nan nan nan nan in
-    ap whole (c .mul-quat-total .ensures) ∙ ap (λ t. times t (getD qs (c .loop-i .i) none)) (c .loop-i .inv) ∙ sym (folded-more times identity qs (c .loop-i .i) none (c .loop-i-test .taken))
+    ap whole (c .mul-quat-total .ensures .value) ∙ ap (λ t. times t (getD qs (c .loop-i .i) none)) (c .loop-i .inv) ∙ sym (folded-more times identity qs (c .loop-i .i) none (c .loop-i-test .taken))
 
 pub returns : need.returns
 returns c = c .loop-i .inv ∙ ap (folded times identity) (take-all (c .loop-i .i) (c .args .quats .now) (c .loop-i-test .left))

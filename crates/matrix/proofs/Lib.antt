@@ -1,0 +1,3 @@
+pub mod EulerTests
+pub mod EulerAngles
+pub mod EulerMatrices

@@ -1,0 +1,11 @@
+use borrow.Author.Needs.{needs}
+use Rattle.std.specs.declared.result.Result.the-variants.{Ok}
+use Rattle.exact.specs.Turn.{Z}
+use Rattle.quaternion.proofs.About.{turns}
+use Rattle.quaternion.proofs.dquat.DQuat.from_rotation_z.Needs as need
+
+pub returns-in-Break-check-angle : need.returns-in-Break-check-angle
+returns-in-Break-check-angle c = record { value = search needs; turn = turns Z (c .args .angle) (c .from-residual .result) (search needs) }
+
+pub returns : need.returns
+returns c = record { value = search needs; turn = turns Z (c .args .angle) (Ok (c .from-xyzw .result)) (search needs) }
