@@ -11,3 +11,4 @@ pub mod Octants
 pub mod Angles
 pub mod ArcCosine
 pub mod Tests
+pub mod Roots

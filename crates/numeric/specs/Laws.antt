@@ -1,7 +1,8 @@
 -- What the four functions promise, against the exact sine and cosine of specs/Sine of `exact`.
 use mathlib.Core.Path.{_≡_}
 use lib.IntN.{pos}
-use lib.Ieee.{Float}
+use lib.Ieee.{Float, binary64}
+use Rattle.std.specs.Floats.{sqrt}
 use Rattle.exact.specs.Fraction.{Frac, _over_, whole, part, _+ᶠ_, _-ᶠ_, _*ᶠ_, _≤ᶠ_}
 use Rattle.exact.specs.Distance.{Size, Close}
 use Rattle.exact.specs.Sine.{sine, cosine}
@@ -84,3 +85,8 @@ pub record Is-arc-cosine (t f : Float) : Type 0 where
 
 abbrev pub Arc-cosine-law : Type 0
 Arc-cosine-law = (f : Float) → Is f → Is-arc-cosine (acos-float f) f
+
+-- ---- the root
+
+abbrev pub Root-example : Type 0
+Root-example = sqrt binary64 (bits 0x4000_0000_0000_0000) ≡ bits 0x3FF6_A09E_667F_3BCD

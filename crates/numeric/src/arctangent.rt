@@ -7,7 +7,7 @@ ghost use Rattle.fault.specs.Answers.{answer, _⨾_};
 ghost use Rattle.rounding.specs.Value.{Is};
 ghost use Rattle.numeric.specs.Tests.{number-fault};
 ghost use Rattle.numeric.specs.ArcTangent.{atan-kernel, atan-near, atan-unit, angle-up, atan2-float, acos-float};
-ghost use Rattle.numeric.specs.Laws.{Is-angle, Is-arc-cosine};
+ghost use Rattle.numeric.specs.Laws.{Is-angle, Is-arc-cosine, Root-example};
 use crate::checks::check_number;
 use fault::NumberFault;
 
@@ -123,3 +123,8 @@ pub fn acos_approx(f: f64) -> Result<f64, NumberFault>
     check_number(0, f)?;
     Ok(acos_raw(f))
 }
+
+// By the definition alone, √2 has the bits 3FF6A09E667F3BCD.
+pub fn root_example_stands()
+    ensures { λ _. ⌜ Root-example ⌝ }
+{}

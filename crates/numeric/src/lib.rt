@@ -7,6 +7,7 @@ pub use arctangent::acos_approx;
 pub use arctangent::acos_raw;
 pub use arctangent::atan2;
 pub use arctangent::atan2_raw;
+pub use arctangent::root_example_stands;
 pub use arctangent::sqrt;
 pub use checks::check_angle;
 pub use checks::check_number;

@@ -20,14 +20,14 @@ use Rattle.rounding.proofs.Units.{Near, grid-near, round-finite}
 use Rattle.rounding.proofs.Ticks.{size, sign, has-value, ticks-of, ticks-are, size-below}
 
 -- ---- the whole part of a root
-abbrev Root : ℕ → ℕ → Type 0
+abbrev pub Root : ℕ → ℕ → Type 0
 Root s n = (s * s ≤ n) × (n < (s + 1) * (s + 1))
 
 digit : (r n : ℕ) (b : Bool) → Root r (n / 4) → leb ((2 * r + 1) * (2 * r + 1)) n ≡ b → Root (cond b (2 * r + 1) (2 * r)) n
 digit r n true h e = (leb-true _ _ e, omega (arith, h .1))
 digit r n false h e = (omega (arith, h .0), leb-false _ _ e)
 
-below : (k n : ℕ) → n < 2 ^ k → Root (rootBelow k n) n
+pub below : (k n : ℕ) → n < 2 ^ k → Root (rootBelow k n) n
 unfolding rootBelow
 below zero n h = omega arith
 below (suc k) n h = digit (rootBelow k (n / 4)) n _ (below k (n / 4) (omega arith)) refl
