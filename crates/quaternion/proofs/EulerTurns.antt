@@ -29,6 +29,7 @@ use Rattle.matrix.proofs.EulerAngles.{Sines, sines-of, flip, half, halved, ε, 
 use Rattle.quaternion.specs.Euler.{Angle, angle, place, four, assembled, parity, from-euler, by-order}
 use Rattle.quaternion.specs.EulerLaws.{Euler-turn-law}
 use Rattle.quaternion.proofs.Floats.{values, square-of, settles, beside, unit-within}
+use Rattle.quaternion.proofs.About.{along-apart}
 
 -- ---- the algebra
 
@@ -96,11 +97,6 @@ floats-near o {a} {b} {c} ha hb hc =
     (placed (o .«initial_axis») e r (o .«frame_static») (four-near r (parity-near e) ha hb hc))
 
 -- ---- turns about an axis
-
-along-apart : (i : T.Axis) (v w : Pair) → square ops (minus ops (along 0# i (v .s) (v .c)) (along 0# i (w .s) (w .c))) ≡ (v .s - w .s) * (v .s - w .s) + (v .c - w .c) * (v .c - w .c)
-along-apart T.X v w = ring (v .s ▸ v .c ▸ w .s ▸ w .c ▸ ∅) (λ s c s′ c′. square exs (minus exs (along 0ₑ T.X s c) (along 0ₑ T.X s′ c′)) ≐ (s ⊝ s′) ⊗ (s ⊝ s′) ⊕ (c ⊝ c′) ⊗ (c ⊝ c′)) tt
-along-apart T.Y v w = ring (v .s ▸ v .c ▸ w .s ▸ w .c ▸ ∅) (λ s c s′ c′. square exs (minus exs (along 0ₑ T.Y s c) (along 0ₑ T.Y s′ c′)) ≐ (s ⊝ s′) ⊗ (s ⊝ s′) ⊕ (c ⊝ c′) ⊗ (c ⊝ c′)) tt
-along-apart T.Z v w = ring (v .s ▸ v .c ▸ w .s ▸ w .c ▸ ∅) (λ s c s′ c′. square exs (minus exs (along 0ₑ T.Z s c) (along 0ₑ T.Z s′ c′)) ≐ (s ⊝ s′) ⊗ (s ⊝ s′) ⊕ (c ⊝ c′) ⊗ (c ⊝ c′)) tt
 
 -- √2 ε, and a bit
 abbrev ρ : Frac
