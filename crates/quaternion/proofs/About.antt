@@ -11,9 +11,9 @@ use Rattle.fault.specs.declared.RotationFault.the-variants.{Number}
 use Rattle.exact.specs.Quat.{Quat, square, minus}
 use Rattle.exact.specs.Turn.{Axis, X, Y, Z, along, about}
 use Rattle.exact.proofs.Ring.{_⊕_, _⊗_, _⊝_}
-use Rattle.exact.proofs.Rational.{ℚ, cls, _+_, _*_, _-_, ∅, _▸_, _≐_, ring}
+use Rattle.exact.proofs.Rational.{cls, _+_, _*_, _-_, ∅, _▸_, _≐_, ring}
 use Rattle.exact.proofs.Order.{_≤_}
-use Rattle.exact.proofs.Within.{0#, 1#, 0ₑ, num, 2⁻, closed, computes, ≤-trans, ≤-of, ≤-+, near-≤, near-trans}
+use Rattle.exact.proofs.Within.{0#, 0ₑ, num, 2⁻, closed, computes, ≤-trans, ≤-of, ≤-+, near-≤, near-trans}
 use Rattle.exact.proofs.Within.{apart as gap}
 use Rattle.exact.proofs.Quats.{ops, exs, _~⟨_⟩_, ~-same, square-near, upto-one}
 use Rattle.exact.proofs.Distance.{classes, back, size}

@@ -4,8 +4,8 @@ use mathlib.Core.Bool.{Bool, true, false, cond}
 use lib.IntN.{pos}
 use lib.Ieee.{Float, fits, ofBits}
 use lib.Ieee as I
-use Rattle.exact.specs.Fraction.{Frac, 0ᶠ, 1ᶠ, _over_, whole, part, _+ᶠ_, _*ᶠ_}
-use Rattle.exact.specs.Quat.{Ops, Quat, product, square, minus}
+use Rattle.exact.specs.Fraction.{Frac, 0ᶠ, 1ᶠ, _over_, whole, part, _*ᶠ_}
+use Rattle.exact.specs.Quat.{Ops, Quat, product, square}
 use Rattle.exact.specs.Turn as T
 use Rattle.exact.specs.Turn.{along, about}
 use Rattle.exact.proofs.Ring.{_⊕_, _⊗_, ⊖_, _⊝_}
