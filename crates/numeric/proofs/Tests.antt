@@ -23,7 +23,7 @@ number-is nan f e = absurd (subst T (sym e) tt)
 number-is (inf s) f e = absurd (subst T (sym e) tt)
 number-is (fin s m d) f e = record { fit = f; fin = tt }
 
-thousand : Exact largest-angle (num 1000)
+pub thousand : Exact largest-angle (num 1000)
 unfolding ofBits fits
 thousand = literal-exact tt refl
 

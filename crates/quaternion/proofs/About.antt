@@ -1,7 +1,7 @@
 -- Turns about one axis: by the laws of sine and cosine at half the angle.
-use mathlib.Core.Path.{_≡_, refl, sym, ap, ap₂}
+use mathlib.Core.Path.{_≡_, sym, ap, ap₂}
 use mathlib.Core.Bool.{false}
-use lib.Ieee.{Float, binary64, mul, ofBits, fits}
+use lib.Ieee.{Float, binary64, mul}
 use Rattle.std.specs.declared.option.Option.the-variants.{None}
 use Rattle.fault.specs.Answers.{answer, unless, _⨾_, within as inside}
 use Rattle.std.specs.declared.result.Result.{Result}
@@ -13,7 +13,7 @@ use Rattle.exact.specs.Turn.{Axis, X, Y, Z, along, about}
 use Rattle.exact.proofs.Ring.{_⊕_, _⊗_, _⊝_}
 use Rattle.exact.proofs.Rational.{cls, _+_, _*_, _-_, ∅, _▸_, _≐_, ring}
 use Rattle.exact.proofs.Order.{_≤_}
-use Rattle.exact.proofs.Within.{0#, 0ₑ, num, 2⁻, closed, computes, ≤-trans, ≤-of, ≤-+, near-≤, near-trans}
+use Rattle.exact.proofs.Within.{0#, 0ₑ, 2⁻, closed, computes, ≤-trans, ≤-of, ≤-+, near-≤, near-trans}
 use Rattle.exact.proofs.Within.{apart as gap}
 use Rattle.exact.proofs.Quats.{ops, exs, _~⟨_⟩_, ~-same, square-near, upto-one}
 use Rattle.exact.proofs.Distance.{classes, back, size}
@@ -22,10 +22,9 @@ use Rattle.exact.proofs.Sines.{exact}
 use Rattle.exact.proofs.Turns.{along-cls, about-length}
 use Rattle.rounding.specs.Value.{val, Is}
 use Rattle.rounding.proofs.Values.{#_}
-use Rattle.rounding.proofs.Rounds.{Exact, own}
-use Rattle.rounding.proofs.Convert.{literal-exact}
+use Rattle.rounding.proofs.Rounds.{own}
 use Rattle.rounding.proofs.Literals.{zero-exact}
-use Rattle.numeric.specs.Tests.{largest-angle}
+use Rattle.numeric.proofs.Tests.{thousand}
 use Rattle.numeric.specs.Sine.{sin-float, cos-float}
 use Rattle.numeric.specs.Laws.{Angle}
 use Rattle.numeric.proofs.Sines.{sized, size-≤}
@@ -84,10 +83,6 @@ module _ {v : Float} (a : Angle v) (axis : Axis) where
       }
 
 -- ---- an angle is not refused
-
-thousand : Exact largest-angle (num 1000)
-unfolding ofBits fits
-thousand = literal-exact tt refl
 
 angle-passes : {v : Float} → Angle v → turn-fault v ≡ None
 angle-passes {v} a = ap₂ (λ b c. inside Number (unless b (NotFinite 0) ⨾ unless c (TooLarge 0))) (is-finite v (a .is)) (at-most (own (sized v (a .is) .0)) thousand (size-≤ (a .is) (size (a .size))))
