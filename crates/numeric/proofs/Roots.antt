@@ -1,8 +1,8 @@
 -- The root of 2, by its definition: the whole part of the root of 2⁴⁵⁴³, and half a place more, rounded.
 use Rattle.std.proofs.Common.{◌≡◌, ℕ, suc, ◌+◌, ◌*◌, ◌^◌, ◌<◌, ◌≤◌, false, cond, eqb, sym, refl, ap, ◌∙◌, le_of_suc-le-suc, mul-le-mul, le_antisymm, lt_of_not-le, arith, lit<, lit≤}
-use lib.Ieee.{binary64, round, of_bits}
+use lib.Ieee.{binary64, round, root_below, root_twice, of_bits}
 use lib.Ieee.Digits.{size-lt}
-use Rattle.std.specs.Float.{isqrt-below, twice-sqrt-sticky, sqrt}
+use Rattle.std.specs.Float.{sqrt}
 use Rattle.rounding.proofs.Root.{Root, below}
 use Rattle.numeric.specs.Laws.{RootExample}
 
@@ -20,11 +20,11 @@ root = 6160772200929245665514111795498204127964934143326239031647622375724362670
 root_is : Root root (2 ^ 4543)
 root_is = (lit≤ tt, lit< tt)
 
-whole_part : isqrt-below (lib.Ieee.size (2 ^ 4543)) (2 ^ 4543) ≡ root
+whole_part : root_below (lib.Ieee.size (2 ^ 4543)) (2 ^ 4543) ≡ root
 whole_part = same_root _ root (2 ^ 4543) (below (lib.Ieee.size (2 ^ 4543)) (2 ^ 4543) (size-lt (2 ^ 4543))) root_is
 
-twice : twice-sqrt-sticky (2 ^ 4543) ≡ 2 * root + 1
-unfolding twice-sqrt-sticky
+twice : root_twice (2 ^ 4543) ≡ 2 * root + 1
+unfolding root_twice
 twice = ap (λ (s : ℕ). 2 * s + cond (eqb (s * s) (2 ^ 4543)) 0 1) whole_part
 
 pub root_two : RootExample

@@ -4,7 +4,7 @@ use Prim.Native.Nat as N
 use lib.Signed.{pos-nat_abs}
 use lib.Ieee as F
 use lib.Ieee.{Float, nan, inf, fin, binary64, fits, unlike, add, sub, mul, div}
-use lib.Ieee.Fits.{nan-fits, inf-fits, round-fits}
+use lib.Ieee.Fits.{sqrt-fits}
 use Rattle.exact.specs.Fraction.{Frac, whole, part, inverse, ◌+ᶠ◌}
 use Rattle.exact.proofs.Ring.{con, ◌⊕◌, ◌⊗◌, ⊖◌, ◌⊝◌}
 use Rattle.exact.proofs.Rational.{ℚ, cls, ◌+◌, ◌*◌, neg, ◌-◌, ∅, ◌▸◌, ◌≐◌, ring, whole_+, whole_*, whole_neg}
@@ -170,15 +170,6 @@ quotient_above {y = y} c t i j l h g m = quotient_times i j (above_by c t l) h g
 
 -- ---- roots
 
-sqrt_fits : (x : Float) → T (fits binary64 x) → T (fits binary64 (sqrt binary64 x))
-unfolding sqrt
-sqrt_fits nan f = nan-fits binary64
-sqrt_fits (inf false) f = inf-fits binary64 false
-sqrt_fits (inf true) f = nan-fits binary64
-sqrt_fits (fin s zero e) f = f
-sqrt_fits (fin true (suc m) e) f = nan-fits binary64
-sqrt_fits (fin false (suc m) e) f = round-fits binary64 false _ _
-
 -- the share of x that the square of a rounded root may be off by: (1 + δ)² for a rounding δ of 2 ^ -53 has 2 δ = 2 ^ -52; δ² and the digits that the root leaves out are within 2 ^ -92
 abbrev pub root_share : Frac
 root_share = part 52 +ᶠ part 92
@@ -213,6 +204,6 @@ root_rounds {x} i h =
     let r = sqrt binary64 x in
     let X = pos-nat_abs (ticks x) (nonneg_whole (ticks x) (subst (λ z. 0# ≤ z) (sym (of_ticks i)) (0≤* h (0≤num L)))) in
     let q = sqrt_near x (nat_abs (ticks x)) i.fit i.fin (sym X) in
-    let j : Is r = record { fit = sqrt_fits x i.fit; fin = q.1 } in
+    let j : Is r = record { fit = sqrt-fits binary64 x; fin = q.1 } in
     let S : num q.0 ≡ # r * Λ = ap W (sym q.2) ∙ of_ticks j in
     (j, cancel 0<Λ (≤_trans (≤_of (ring (Λ ▸ ∅) (λ Λ. 0ₑ ⊗ Λ ≐ 0ₑ) tt)) (≤_trans (0≤num q.0) (≤_of S))), root_error (# r) (# x) q.0 (nat_abs (ticks x)) S (ap W X ∙ of_ticks i) q.3)

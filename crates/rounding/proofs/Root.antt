@@ -2,11 +2,11 @@
 use Rattle.std.proofs.Common.{◌≡◌, ℕ, zero, suc, ◌+◌, ◌-◌, ◌*◌, ◌/◌, ◌^◌, ◌<◌, ◌≤◌, max, Bool, true, false, cond, T, eqb, leb, ℤ, pos, neg_ℤ, nat_abs, sym, refl, ap, ◌∙◌, subst, le_trans, mul-le-mul_right, zero-lt-suc, mul_assoc, mul-le-mul, mul-pos, lt_of_not-le, mul_right_comm, le_of_mul-le-mul_right, mul-div_cancel, arith, lit≤, pow_pos, leb-false, leb-true}
 use borrow.Author.Differences.{neg_is}
 use borrow.Author.Differences.{down as down_z}
-use lib.Ieee.{Float, nan, inf, fin, binary64, low, up, down, round, fits}
+use lib.Ieee.{Float, nan, inf, fin, binary64, low, up, down, round, root_below, root_twice, fits}
 use lib.Ieee.Digits.{size-lt}
-use lib.Ieee.Fits.{down_pos, up_pos}
+use lib.Ieee.Fits.{down_pos, up_pos, sqrt-fits}
 use lib.Ieee.Scale.{finite, grid}
-use Rattle.std.specs.Float.{isqrt-below, twice-sqrt-sticky, sqrt}
+use Rattle.std.specs.Float.{sqrt}
 use Rattle.rounding.specs.Value.{signed, L, ticks}
 use Rattle.rounding.proofs.Units.{Near, grid_near, round_finite}
 use Rattle.rounding.proofs.Ticks.{size, sign, has_value, ticks_of, ticks_are, size_below}
@@ -19,18 +19,18 @@ digit : (r n : ℕ) (b : Bool) → Root r (n / 4) → leb ((2 * r + 1) * (2 * r 
 digit r n true h e = (leb-true _ _ e, omega (arith, h.1))
 digit r n false h e = (omega (arith, h.0), leb-false _ _ e)
 
-pub below : (k n : ℕ) → n < 2 ^ k → Root (isqrt-below k n) n
-unfolding isqrt-below
+pub below : (k n : ℕ) → n < 2 ^ k → Root (root_below k n) n
+unfolding root_below
 below zero n h = omega arith
-below (suc k) n h = digit (isqrt-below k (n / 4)) n _ (below k (n / 4) (omega arith)) refl
+below (suc k) n h = digit (root_below k (n / 4)) n _ (below k (n / 4) (omega arith)) refl
 
 -- twice the root, or the odd number between: its square is near to 4 * n
 abbrev Rough : ℕ → ℕ → Type 0
 Rough t n = (t * t ≤ 4 * n + 4 * t + 4) × (4 * n ≤ t * t + 4 * t + 4)
 
-twice : (n : ℕ) → Rough (twice-sqrt-sticky n) n
-unfolding twice-sqrt-sticky
-twice n = go (isqrt-below (lib.Ieee.size n) n) (eqb (isqrt-below (lib.Ieee.size n) n * isqrt-below (lib.Ieee.size n) n) n) (below (lib.Ieee.size n) n (size-lt n))
+twice : (n : ℕ) → Rough (root_twice n) n
+unfolding root_twice
+twice n = go (root_below (lib.Ieee.size n) n) (eqb (root_below (lib.Ieee.size n) n * root_below (lib.Ieee.size n) n) n) (below (lib.Ieee.size n) n (size-lt n))
   where
     go : (s : ℕ) (b : Bool) → Root s n → Rough (2 * s + cond b 0 1) n
     go s true h = omega (arith, h.0, h.1)
@@ -54,7 +54,7 @@ scaled : (a d x : ℕ) → 0 < d → a * 2 ^ 1074 ≡ x * d → a * 2 ^ 4542 / d
 scaled a d x D e =
     ap (λ (k : ℕ). k / d) (sym (mul_assoc a (2 ^ 1074) (2 ^ 3468)) ∙ ap (λ (k : ℕ). k * 2 ^ 3468) e ∙ mul_right_comm x d (2 ^ 3468)) ∙ mul-div_cancel (x * 2 ^ 3468) D
 
-sqrt_is : (x : Float) → T (fits binary64 x) → T (finite x) → sign x ≡ false → 0 < size x → sqrt binary64 x ≡ round binary64 false (twice-sqrt-sticky (size x * 2 ^ 3468)) (2 ^ 2272)
+sqrt_is : (x : Float) → T (fits binary64 x) → T (finite x) → sign x ≡ false → 0 < size x → sqrt binary64 x ≡ round binary64 false (root_twice (size x * 2 ^ 3468)) (2 ^ 2272)
 unfolding sqrt
 sqrt_is nan f p s z = absurd p
 sqrt_is (inf t) f p s z = absurd p
@@ -65,7 +65,7 @@ sqrt_is (fin false zero e) f p s z = absurd (nothing (size (fin false zero e)) (
     nothing : (k d u : ℕ) → 0 < k → 0 < d → 0 * u ≡ k * d → ⊥
     nothing k d u K D e = omega (arith, mul-pos K D)
 sqrt_is (fin false (suc m) e) f p s z =
-    ap (λ (n : ℕ). round binary64 false (twice-sqrt-sticky n) (2 ^ 2272)) (scaled (suc m * up e) (down e) (size (fin false (suc m) e)) (down_pos e) (has_value (fin false (suc m) e) f p).1)
+    ap (λ (n : ℕ). round binary64 false (root_twice n) (2 ^ 2272)) (scaled (suc m * up e) (down e) (size (fin false (suc m) e)) (down_pos e) (has_value (fin false (suc m) e) f p).1)
 
 -- with D = 2 ^ 1198: t / D is the root in ticks
 cancel : (h t d l g : ℕ) → 0 < l → Near h (t * l) (d * l) g → Near h t d g
@@ -112,7 +112,7 @@ sqrt_above : (x : Float) → T (fits binary64 x) → T (finite x) → sign x ≡
 unfolding L
 sqrt_above x f p s z =
     let n = size x * 2 ^ 3468 in
-    let t = twice-sqrt-sticky n in
+    let t = root_twice n in
     let r = twice n in
     let k = grid binary64 t (2 ^ 2272) in
     let N : Near (2 ^ 52) t (2 ^ 1198) k = cancel (2 ^ 52) t (2 ^ 1198) (2 ^ 1074) k (pow_pos 1074) (grid_near binary64 t (2 ^ 2272) (pow_pos 2272)) in
@@ -146,8 +146,8 @@ clash k X K h = omega (arith, neg_is (pos k), ap down_z h)
 pub sqrt_near : (x : Float) (X : ℕ) → T (fits binary64 x) → T (finite x) → ticks x ≡ pos X → (k : ℕ) × T (finite (sqrt binary64 x)) × (ticks (sqrt binary64 x) ≡ pos k) × RootError k (X * L)
 sqrt_near nan X f p h = absurd p
 sqrt_near (inf s) X f p h = absurd p
-sqrt_near (fin true zero e) X f p h = unfold sqrt in (0, tt, no_size true e f, zero_error X L (sym (no_size true e f) ∙ h))
-sqrt_near (fin false zero e) X f p h = unfold sqrt in (0, tt, no_size false e f, zero_error X L (sym (no_size false e f) ∙ h))
+sqrt_near (fin true zero e) X f p h = unfold sqrt in (0, tt, no_size true (pos 0) (sqrt-fits binary64 (fin true zero e)), zero_error X L (sym (no_size true e f) ∙ h))
+sqrt_near (fin false zero e) X f p h = unfold sqrt in (0, tt, no_size false (pos 0) (sqrt-fits binary64 (fin false zero e)), zero_error X L (sym (no_size false e f) ∙ h))
 sqrt_near (fin true (suc m) e) X f p h = absurd (clash (size (fin true (suc m) e)) X (some_size true m e f) (sym (ticks_are (fin true (suc m) e)) ∙ h))
 sqrt_near (fin false (suc m) e) X f p h =
     let x = fin false (suc m) e in
