@@ -2,9 +2,9 @@ use Rattle.euler.specs.Names.{all}
 use Rattle.euler.proofs.Spelling.{unnamed}
 use Rattle.euler.proofs.EulerRot.from_name.Goals as goal
 
-pub returns-in-default : goal.returns-in-default
-returns-in-default c =
-    let n = c.in-default in
+pub returns-in_default : goal.returns-in_default
+returns-in_default c =
+    let n = c.in_default in
     unnamed c.args.name.now all (
       n.not-ZYX,
       (

@@ -5,20 +5,20 @@ use Rattle.euler.specs.Lists.{first_fault}
 use Rattle.euler.proofs.Lists.{answered, refused, first_more, first_here, none_at, converted_more, rest_kept, listed}
 use Rattle.euler.proofs.list.from_euler_list.Goals as goal
 
-pub returns-in-err-from-euler-angles : goal.returns-in-err-from-euler-angles
-returns-in-err-from-euler-angles g c =
+pub returns-in_err-from_euler_angles : goal.returns-in_err-from_euler_angles
+returns-in_err-from_euler_angles g c =
     let f = g.R.FromEuler.refusal c.args.order in
-    let p = err_from_is_err_and c.from-residual.result c.from-residual.ensures.1 in
-    let x = c.in-err-from-euler-angles.field-0.0 in
-    let e = refused _ _ x c.in-err-from-euler-angles.ensures in
-    listed f (g.R.FromEuler.rotation c.args.order) c.args.angles.now c.args.out.now c.from-residual.result c.args.out.now (Some x)
+    let p = err_from_is_err_and c.from_residual.result c.from_residual.ensures.1 in
+    let x = c.in_err-from_euler_angles.field-0.0 in
+    let e = refused _ _ x c.in_err-from_euler_angles.ensures in
+    listed f (g.R.FromEuler.rotation c.args.order) c.args.angles.now c.args.out.now c.from_residual.result c.args.out.now (Some x)
     c.if-out-angles.false
     (first_here f c.args.angles.now c.loop-i.i (nan, nan, nan) x c.loop-i-test.true c.loop-i.invariant e)
     (p.1 ∙ ap Err p.2, refl)
 
 pub loop-i-preserved : goal.loop-i-preserved
 loop-i-preserved g c =
-    let e = answered _ _ c.in-ok-from-euler-angles.field-0 c.in-ok-from-euler-angles.ensures in
+    let e = answered _ _ c.in_ok-from_euler_angles.field-0 c.in_ok-from_euler_angles.ensures in
     rw add-one (first_more (g.R.FromEuler.refusal c.args.order) c.args.angles.now c.loop-i.i _ c.loop-i-test.true c.loop-i.invariant e.0)
 
 pub loop-j-init : goal.loop-j-init

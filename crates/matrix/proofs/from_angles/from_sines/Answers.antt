@@ -38,12 +38,12 @@ filled Z false r f n = refl
 pub returns : goal.returns
 returns c =
     let o = c.args.order in
-    let t = c.angle-order-i.result in
+    let t = c.angle_order-i.result in
     let at : Bool → Nine Float = λ r. nine floats r c.args.first c.args.middle c.args.last in
     let go : (r : Bool) → o.initial_repeated ≡ r → c.if-order.m ≡ fill t.0 t.1 t.2 (at r) → listed c.if-order.m ≡ placed o (at o.initial_repeated) =
-    λ r e h. ap listed h ∙ ap (λ t. listed (fill t.0 t.1 t.2 (at r))) c.angle-order-i.ensures
+    λ r e h. ap listed h ∙ ap (λ t. listed (fill t.0 t.1 t.2 (at r))) c.angle_order-i.ensures
     ∙ filled o.initial_axis o.parity_even o.initial_repeated o.frame_static (at r) ∙ ap (λ r. placed o (at r)) (sym e) in
-    c.from-cols-array-2d.ensures ∙ elim c.if-order.branch [
+    c.from_cols_array_2d.ensures ∙ elim c.if-order.branch [
       | then-order w ↦ go true w.if-order.true w.m-is
       | else-order w ↦ go false w.if-order.false w.m-is
     ]

@@ -7,5 +7,5 @@ use Rattle.numeric.proofs.arctangent.acos_raw.Goals as goal
 
 pub returns : goal.returns
 returns c =
-    let e : c.atan2-raw.result ≡ acos_float c.args.f = search rules in
+    let e : c.atan2_raw.result ≡ acos_float c.args.f = search rules in
     record { value = e; near = λ i. subst (λ (t : Float). IsArcCosine t c.args.f) (sym e) (arc_cosine_law c.args.f i) }

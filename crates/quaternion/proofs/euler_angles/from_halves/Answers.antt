@@ -37,17 +37,17 @@ even_sign false h = absurd (true≢false h)
 pub returns : goal.returns
 returns c =
     let o = c.args.order in
-    let t = c.angle-order-i.result in
+    let t = c.angle_order-i.result in
     let turn = λ (r : Bool) (p : Float). four floats r p (angle c.args.first) (angle c.args.middle) (angle c.args.last) in
     let go : (q : Quat Float) → c.if-order.a ≡ fill t.0 t.1 t.2 q → parts (listed c.if-order.a) ≡ place o q =
-    λ q e. ap (λ a. parts (listed a)) e ∙ ap (λ t. parts (listed (fill t.0 t.1 t.2 q))) c.angle-order-i.ensures ∙ filled o.initial_axis o.parity_even o.initial_repeated o.frame_static q in
+    λ q e. ap (λ a. parts (listed a)) e ∙ ap (λ t. parts (listed (fill t.0 t.1 t.2 q))) c.angle_order-i.ensures ∙ filled o.initial_axis o.parity_even o.initial_repeated o.frame_static q in
     let sign : c.if-not-order.parity ≡ parity o.parity_even = elim c.if-not-order.branch [
       | then-not-order w ↦ w.parity-is ∙ odd_sign o.parity_even w.if-not-order.true
       | else-not-order w ↦ w.parity-is ∙ even_sign o.parity_even w.if-not-order.false
     ] in
     let at : (r : Bool) → o.initial_repeated ≡ r → place o (turn r c.if-not-order.parity) ≡ place o (turn o.initial_repeated (parity o.parity_even)) =
     λ r e. ap₂ (λ r p. place o (turn r p)) (sym e) sign in
-    ap parts c.from-array.ensures ∙ elim c.if-order.branch [
+    ap parts c.from_array.ensures ∙ elim c.if-order.branch [
       | then-order w ↦ go (turn true c.if-not-order.parity) w.a-is ∙ at true w.if-order.true
       | else-order w ↦ go (turn false c.if-not-order.parity) w.a-is ∙ at false w.if-order.false
     ]

@@ -21,5 +21,5 @@ returns c =
     let z = c.args.c in
     record {
       value = search rules;
-      near = subst (λ r. IfOk r (IsEulerMatrix n x y z)) (sym c.from-euler-angles.ensures) (angles_pass (IsEulerMatrix n x y z) (from_euler n x y z) (search rules) (search rules) (search rules) (euler_matrix n x y z));
+      near = subst (λ r. IfOk r (IsEulerMatrix n x y z)) (sym c.from_euler_angles.ensures) (angles_pass (IsEulerMatrix n x y z) (from_euler n x y z) (search rules) (search rules) (search rules) (euler_matrix n x y z));
     }

@@ -21,5 +21,5 @@ returns c =
     let z = c.args.c in
     record {
       value = search rules;
-      near = subst (λ r. IfOk r (λ q. IsEulerTurn n x y z (parts q))) (sym c.from-euler-angles.ensures) (angles_pass (λ q. IsEulerTurn n x y z (parts q)) (from_euler n x y z) (search rules) (search rules) (search rules) (turn n x y z));
+      near = subst (λ r. IfOk r (λ q. IsEulerTurn n x y z (parts q))) (sym c.from_euler_angles.ensures) (angles_pass (λ q. IsEulerTurn n x y z (parts q)) (from_euler n x y z) (search rules) (search rules) (search rules) (turn n x y z));
     }

@@ -3,8 +3,8 @@ use Rattle.exact.specs.Turn.{X}
 use Rattle.quaternion.proofs.Accepted.{turns}
 use Rattle.quaternion.proofs.dquat.DQuat.from_rotation_x.Goals as goal
 
-pub returns-in-err-check-angle : goal.returns-in-err-check-angle
-returns-in-err-check-angle c = record { value = search rules; turn = turns X c.args.angle c.from-residual.result (search rules) }
+pub returns-in_err-check_angle : goal.returns-in_err-check_angle
+returns-in_err-check_angle c = record { value = search rules; turn = turns X c.args.angle c.from_residual.result (search rules) }
 
 pub returns : goal.returns
-returns c = record { value = search rules; turn = turns X c.args.angle (Ok c.from-xyzw.result) (search rules) }
+returns c = record { value = search rules; turn = turns X c.args.angle (Ok c.from_xyzw.result) (search rules) }

@@ -6,5 +6,5 @@ use Rattle.quaternion.proofs.dquat.DQuat.mul_quat.Goals as goal
 
 pub returns : goal.returns
 returns c =
-    let is = ap parts c.from-xyzw.ensures in
+    let is = ap parts c.from_xyzw.ensures in
     record { value = is; near = subst (IsProduct (parts c.args.self) (parts c.args.rhs)) (sym is) (is_product _ _) }

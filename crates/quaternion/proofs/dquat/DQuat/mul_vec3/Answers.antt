@@ -6,14 +6,14 @@ use Rattle.quaternion.specs.Quaternions.{parts}
 use Rattle.quaternion.proofs.Accepted.{images}
 use Rattle.quaternion.proofs.dquat.DQuat.mul_vec3.Goals as goal
 
-pub returns-in-err-check-finite : goal.returns-in-err-check-finite
-returns-in-err-check-finite c = record { value = search rules; near = images (parts c.args.self) (V.parts c.args.rhs) c.from-residual.result (search rules) }
+pub returns-in_err-check_finite : goal.returns-in_err-check_finite
+returns-in_err-check_finite c = record { value = search rules; near = images (parts c.args.self) (V.parts c.args.rhs) c.from_residual.result (search rules) }
 
-pub returns-then-not-is-finite : goal.returns-then-not-is-finite
-returns-then-not-is-finite c = record { value = search rules; near = images (parts c.args.self) (V.parts c.args.rhs) (Err (Number (NotFinite 1))) (search rules) }
+pub returns-then-not-is_finite : goal.returns-then-not-is_finite
+returns-then-not-is_finite c = record { value = search rules; near = images (parts c.args.self) (V.parts c.args.rhs) (Err (Number (NotFinite 1))) (search rules) }
 
-pub returns-in-err-check-normalized : goal.returns-in-err-check-normalized
-returns-in-err-check-normalized c = record { value = search rules; near = images (parts c.args.self) (V.parts c.args.rhs) c.from-residual-in-err-check-normalized.result (search rules) }
+pub returns-in_err-check_normalized : goal.returns-in_err-check_normalized
+returns-in_err-check_normalized c = record { value = search rules; near = images (parts c.args.self) (V.parts c.args.rhs) c.from_residual-in_err-check_normalized.result (search rules) }
 
 pub returns : goal.returns
 returns c = record { value = search rules; near = images (parts c.args.self) (V.parts c.args.rhs) (Ok c.add-2.result) (search rules) }

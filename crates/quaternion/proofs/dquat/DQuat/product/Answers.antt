@@ -9,7 +9,7 @@ pub loop-i-preserved : goal.loop-i-preserved
 loop-i-preserved c =
     let qs = c.args.quats.now in
     let none = quat nan nan nan nan in
-    ap whole c.mul-quat-total.ensures.value ∙ ap (λ t. times t (get_or qs c.loop-i.i none)) c.loop-i.invariant ∙ sym (fold_more times identity qs c.loop-i.i none c.loop-i-test.true)
+    ap whole c.mul_quat-total.ensures.value ∙ ap (λ t. times t (get_or qs c.loop-i.i none)) c.loop-i.invariant ∙ sym (fold_more times identity qs c.loop-i.i none c.loop-i-test.true)
 
 pub returns : goal.returns
 returns c = c.loop-i.invariant ∙ ap (fold times identity) (take_all c.loop-i.i c.args.quats.now c.loop-i-test.false)
