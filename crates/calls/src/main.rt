@@ -1,5 +1,7 @@
 // Answers calls of the library, one to a line: the call's name, each f64 as its bits in hexadecimal, an order by its name, a count in decimal.
 // Prints the bits of the answer in sixteen hexadecimal digits each, NAN, a flag as 1 or 0, REFUSED and the number, or UNKNOWN.
+#![tactic(auto)]
+
 mod answers;
 mod arguments;
 mod numbers;

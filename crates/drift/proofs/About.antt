@@ -8,7 +8,6 @@ use Rattle.exact.specs.Quat.{Quat, square, minus}
 use Rattle.exact.specs.Turn.{Axis, X, Y, Z, along, about}
 use Rattle.exact.proofs.Ring.{◌⊕◌, ◌⊗◌, ◌⊝◌}
 use Rattle.exact.proofs.Rational.{cls, ◌+◌, ◌*◌, ◌-◌, ∅, ◌▸◌, ◌≐◌, ring}
-use Rattle.exact.proofs.Order.{◌≤◌}
 use Rattle.exact.proofs.Within.{0#, 0ₑ, 2⁻, closed, computes, ≤_trans, ≤_of, ≤_+, near_≤, near_trans}
 use Rattle.exact.proofs.Within.{apart as gap}
 use Rattle.exact.proofs.Quats.{ops, exs, ◌~⟨◌⟩◌, ~_same, square_near, upto_one}

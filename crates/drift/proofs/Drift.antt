@@ -1,9 +1,8 @@
 -- A lamp's drift by one turn more, and with the mount below it.
 use Rattle.std.proofs.Common.{◌≡◌, pos, sym, ap, ◌∙◌, subst, arith}
 use Prim.Native.Nat as N
-use lib.Ieee.{Float}
 use Rattle.exact.specs.Fraction.{1ᶠ, whole, part, ◌+ᶠ◌, ◌-ᶠ◌}
-use Rattle.exact.specs.Quat.{Quat, fractions, product, square}
+use Rattle.exact.specs.Quat.{fractions, product, square}
 use Rattle.exact.specs.Facts.{one}
 use Rattle.exact.proofs.Ring.{con, ◌⊕◌, ◌⊗◌}
 use Rattle.exact.proofs.Rational.{cls, ◌+◌, ◌*◌, ∅, ◌▸◌}
@@ -12,7 +11,7 @@ use Rattle.exact.proofs.Within.{0#, 1#, 0ₑ, 1ₑ, num, num_+, num_≤, 2⁻, c
 use Rattle.exact.proofs.Quats.{ops, ◌upto◌, ◌~⟨◌⟩◌, upto_≤, ~_≤}
 use Rattle.exact.proofs.Distance.{classes, near, long, back}
 use Rattle.rounding.proofs.Literals.{zero_exact, one_exact}
-use Rattle.drift.specs.Laws.{Kept, turned}
+use Rattle.drift.specs.Laws.{turned}
 use Rattle.drift.specs.Drift.{hung, Hung, TurnDrifts, Told}
 use Rattle.drift.proofs.Floats.{values, unit_within, kept_sound, kept_upto, beside}
 use Rattle.drift.proofs.Step.{turned_kept, turned_near}

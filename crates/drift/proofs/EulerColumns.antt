@@ -8,11 +8,11 @@ use Rattle.exact.specs.Vector.{Vec, vec, pure, vector, rotated, exact_image}
 use Rattle.exact.specs.Sine.{sine, cosine}
 use Rattle.exact.specs.Turn as T
 use Rattle.exact.specs.Turn.{along, about}
-use Rattle.exact.proofs.Ring.{con, ◌⊕◌, ◌⊗◌, ⊖◌}
-use Rattle.exact.proofs.Rational.{ℚ, cls, ◌+◌, ◌*◌, ◌-◌, neg, Ex, Vars, fill, ∅, ◌▸◌, ◌▹◌}
+use Rattle.exact.proofs.Ring.{con, ◌⊕◌, ⊖◌}
+use Rattle.exact.proofs.Rational.{ℚ, cls, ◌+◌, ◌*◌, ◌-◌, Ex, Vars, fill, ∅, ◌▸◌, ◌▹◌}
 use Rattle.exact.proofs.Order.{◌≼◌, ◌by◌, ◌⇒◌, le}
-use Rattle.exact.proofs.Within.{0#, 1#, 0ₑ, 1ₑ, num, 2⁻, closed, computes, ◌within◌, within_≤, within_+, within_*, within_neg, within_nonneg, within_self, ◌≈⟨◌⟩◌, near, near_≤, near_trans, near_sym, near_self, near_size, near_nonneg, near_neg, near_+, near_*}
-use Rattle.exact.proofs.Pairs.{Pair, ◌≋⟨◌⟩◌, ≋_trans, ≋_sym}
+use Rattle.exact.proofs.Within.{0#, 1#, 0ₑ, 1ₑ, num, 2⁻, closed, computes, ◌within◌, within_≤, within_+, within_*, within_neg, within_nonneg, ◌≈⟨◌⟩◌, near, near_≤, near_sym, near_self, near_size, near_nonneg, near_neg, near_+, near_*}
+use Rattle.exact.proofs.Pairs.{Pair, ◌≋⟨◌⟩◌, ≋_trans}
 use Rattle.exact.proofs.Quats.{ops, exs, Equations, ◌≗◌, Say, true_of4, ring4}
 use Rattle.exact.proofs.Distance.{classes}
 use Rattle.exact.proofs.Vectors.{classes3}
@@ -24,14 +24,14 @@ use Rattle.rounding.proofs.Operations.{rounds_≤, rounds_then}
 use Rattle.rounding.proofs.Approx.{Approx}
 use Rattle.rounding.proofs.Analysis.{Form, leaf, forms, Leaves, float, number, meets, ∎, ◌⊳◌, analyse}
 use Rattle.rounding.proofs.Stated.{rounded}
-use Rattle.euler.specs.Orders.{letters, order, same, second, third}
+use Rattle.euler.specs.Orders.{order, same, second, third}
 use Rattle.euler.specs.declared.Axis.{Axis}
 use Rattle.euler.specs.declared.Axis.TheVariants.{X, Y, Z}
 use Rattle.euler.specs.declared.Order.{Order}
 use Rattle.euler.proofs.Turns.{letter, ends, both_ends, in_order, name_turn}
 use Rattle.drift.specs.Columns.{Nine, nine, pick, placed_column, column}
 use Rattle.drift.specs.EulerLaws.{IsColumn, unit, EulerColumnLaw}
-use Rattle.drift.proofs.EulerAngles.{Sines, sines_of, flip, halved, ε, full, signed_sines, Small, small, pair_of, turned_back}
+use Rattle.drift.proofs.EulerAngles.{Sines, sines_of, flip, halved, ε, signed_sines, Small, small, pair_of, turned_back}
 
 -- ---- images under turns
 

@@ -4,10 +4,9 @@ use lib.Ieee.{Float, fits, of_bits}
 use lib.Ieee as I
 use Rattle.exact.specs.Fraction.{Frac, 0ᶠ, 1ᶠ, ◌over◌, whole, part, ◌*ᶠ◌}
 use Rattle.exact.specs.Quat.{Ops, Quat, product, square}
-use Rattle.exact.specs.Turn as T
 use Rattle.exact.specs.Turn.{along, about}
-use Rattle.exact.proofs.Ring.{◌⊕◌, ◌⊗◌, ⊖◌, ◌⊝◌}
-use Rattle.exact.proofs.Rational.{ℚ, cls, ◌+◌, ◌*◌, ◌-◌, neg, Ex, Vars, ∅, ◌▸◌, ◌≐◌, ring}
+use Rattle.exact.proofs.Ring.{⊖◌}
+use Rattle.exact.proofs.Rational.{ℚ, cls, neg, Ex, Vars, ∅, ◌▸◌}
 use Rattle.exact.proofs.Within.{0#, 1#, 0ₑ, 1ₑ, 2⁻, closed, computes, ≤_trans, ≤_of, ≤_+, ◌≈⟨◌⟩◌, apart, near_≤, near_trans}
 use Rattle.exact.proofs.Pairs.{Pair, ◌≋⟨◌⟩◌}
 use Rattle.exact.proofs.Quats.{ops, exs, ◌upto◌, ◌~⟨◌⟩◌, ~_trans, ~_left, ~_right, ~_sym, ~_≤, ~_same, upto_*, upto_≤, upto_one, square_near, Equations, ◌≗◌, ring4}

@@ -3,7 +3,6 @@ use Rattle.exact.specs.Fraction.{Frac, 1ᶠ, part, ◌+ᶠ◌}
 use Rattle.exact.specs.Quat.{Quat, square}
 use Rattle.exact.specs.Distance.{Long}
 use Rattle.exact.specs.Turn.{about, exact_turn}
-use Rattle.exact.proofs.Rational.{cls}
 use Rattle.exact.proofs.Within.{1#, 2⁻, closed, computes, ◌≈⟨◌⟩◌, near_≤}
 use Rattle.exact.proofs.Quats.{ops, upto_one, upto_≤, ~_≤}
 use Rattle.exact.proofs.Distance.{classes, near, back, long_back}

@@ -1,4 +1,6 @@
 // How far rotations in floats lie from the exact ones: the laws, which the calls of the port carry, and what a run of turns keeps of its exact product.
+#![tactic(auto)]
+
 ghost use Rattle.drift.specs.Laws.{ProductLaw, NormalLaw, TurnedLaw, TurnLaw, ImageLaw};
 ghost use Rattle.drift.specs.EulerLaws.{EulerTurnLaw, EulerColumnLaw};
 ghost use Rattle.drift.specs.Drift.{AxisFair, EulerFair, Hung, TurnDrifts, Told, Beam};

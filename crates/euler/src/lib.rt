@@ -1,4 +1,6 @@
 // Euler orders: which axes, in which sequence, about fixed or moving axes. After Shoemake, "Euler angle conversion", Graphics Gems IV, 1994.
+#![tactic(auto)]
+
 ghost use Rattle.std.specs.Prelude.{◌≡◌, Option};
 ghost use Rattle.fault.specs.Answers.{answer};
 ghost use Rattle.fault.specs.declared.RotationFault.{RotationFault as Fault};

@@ -1,4 +1,6 @@
 // What is proved of exact numbers, each theorem asked for by the contract of a function. The statements are in specs/Facts.antt and specs/Table.antt.
+#![tactic(auto)]
+
 ghost use Rattle.exact.specs.Facts.{LengthsMultiply, ProductsAssociate, TotalsSplit, Triangle, Triangle3, TimesRight, TimesLeft, ImageIsProduct, ImagesNear};
 ghost use Rattle.exact.specs.Facts.{Circle, SineCircle, Sizes, AxisTurnLength, ExactTurnLength, ExactTurnLong, NearestTurns, AnyTurns, AnyTurnsWide};
 ghost use Rattle.exact.specs.Facts.{OddEven, EqualSines, Adding, Doubling, Halving, Steady, SineSteady};

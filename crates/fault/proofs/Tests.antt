@@ -1,5 +1,5 @@
 -- What passes tests that follow one another, and what an accepted answer is.
-use Rattle.std.proofs.Common.{◌≡◌, Bool, true, false, Some, None, Ok, Err, Option, Result, sym, refl, true≢false}
+use Rattle.std.proofs.Common.{◌≡◌, Bool, true, false, Some, None, Ok, Option, sym, refl, true≢false}
 use Rattle.fault.specs.Answers.{unless, within, ◌⨾◌, answer, clear}
 
 module _ {F : Type 0} where

@@ -1,5 +1,7 @@
 // Why a call was turned away: a numbered refusal, the place that it is about, and the layer that refused.
 // A number's fault sits whole inside a rotation's, and that inside a rig's; `From` and `?` carry it up.
+#![tactic(auto)]
+
 ghost use Rattle.std.specs.Prelude.{◌≡◌};
 ghost use Rattle.fault.specs.Faults.{number, refusal, place, layer, rotation_refusal, rotation_place, rotation_layer, rig_refusal, rig_place, rig_layer};
 ghost use Rattle.fault.specs.declared.RotationFault.TheVariants.{Number as OfNumber};

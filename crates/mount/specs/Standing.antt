@@ -1,24 +1,23 @@
 -- Layers keep what a mount shows: its depth, the length of its true orientation, and how near its answer lies.
 use Rattle.std.specs.Prelude.{◌≡◌, ℕ, Bool, true, false, cond, pos, Some, None, Option, nat_le, refl, Float}
-use Rattle.std.proofs.Common.{sym, ap, ◌∙◌, subst, arith, leb-true}
+use Rattle.std.proofs.Common.{sym, subst, leb-true}
 use Prim.Native.Nat as N
 use Rattle.exact.specs.Fraction.{Frac, 1ᶠ, whole, part, ◌+ᶠ◌, ◌-ᶠ◌, ◌*ᶠ◌}
 use Rattle.exact.specs.Quat.{Quat, fractions, product, square}
 use Rattle.exact.specs.Turn.{X, Z, about}
 use Rattle.exact.specs.Facts.{one}
 use Rattle.exact.proofs.Ring.{con, ◌⊕◌, ◌⊗◌}
-use Rattle.exact.proofs.Rational.{ℚ, cls, ◌+◌, ◌*◌, ∅, ◌▸◌}
-use Rattle.exact.proofs.Order.{◌≤◌, number, ◌⊞◌, ◌⊠◌, ◌≼◌, ◌by◌, ◌⇒◌, le}
-use Rattle.exact.proofs.Within.{1#, 0ₑ, 1ₑ, num, num_+, num_≤, 2⁻, closed, computes, 0≤num, ◌≈⟨◌⟩◌, near_≤}
+use Rattle.exact.proofs.Rational.{cls, ◌+◌, ◌*◌, ∅, ◌▸◌}
+use Rattle.exact.proofs.Order.{◌≤◌, number, ◌⊠◌, ◌≼◌, ◌by◌, ◌⇒◌, le}
+use Rattle.exact.proofs.Within.{1#, 1ₑ, num, num_+, num_≤, 2⁻, closed, computes, ◌≈⟨◌⟩◌, near_≤}
 use Rattle.exact.proofs.Quats.{ops, ◌upto◌, ◌~⟨◌⟩◌, upto_one, ~_trans, ~_left, ~_right, ~_≤}
 use Rattle.exact.proofs.Distance.{classes, near, long, back, close, close_back}
 use Rattle.exact.proofs.Turns.{about_length}
 use Rattle.rounding.specs.Value.{val, floats}
-use Rattle.drift.specs.Laws.{Kept, IsTurn, turned}
+use Rattle.drift.specs.Laws.{IsTurn, turned}
 use Rattle.drift.specs.Drift.{Fair, Stands, hung}
 use Rattle.drift.proofs.Floats.{values, kept_sound, kept_upto, product_near, product_sound, product_length}
 use Rattle.drift.proofs.Step.{turned_kept, turned_near}
-use Rattle.drift.proofs.Fair.{axis_fair}
 use Rattle.drift.proofs.Drift.{hung_stands}
 use Rattle.mount.specs.Facts.{UnitAt, deepest}
 use Rattle.mount.specs.Layers.{over, deeper, Over}

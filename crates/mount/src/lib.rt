@@ -1,4 +1,6 @@
 // Mounts: what a lamp stands on. A floor, a measured orientation, and layers over any mount.
+#![tactic(auto)]
+
 mod below;
 mod layers;
 mod settings;

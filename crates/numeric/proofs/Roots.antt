@@ -1,5 +1,5 @@
 -- The root of 2, by its definition: the whole part of the root of 2⁴⁵⁴³, and half a place more, rounded.
-use Rattle.std.proofs.Common.{◌≡◌, ℕ, suc, ◌+◌, ◌*◌, ◌^◌, ◌<◌, ◌≤◌, false, cond, eqb, sym, refl, ap, ◌∙◌, le_of_suc-le-suc, mul-le-mul, le_antisymm, lt_of_not-le, arith, lit<, lit≤}
+use Rattle.std.proofs.Common.{◌≡◌, ℕ, ◌+◌, ◌*◌, ◌^◌, ◌≤◌, false, cond, eqb, ap, le_of_suc-le-suc, mul-le-mul, le_antisymm, lt_of_not-le, arith, lit<, lit≤}
 use lib.Ieee.{binary64, round, root_below, root_twice, of_bits}
 use lib.Ieee.Digits.{size-lt}
 use Rattle.std.specs.Float.{sqrt}

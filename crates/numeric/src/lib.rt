@@ -1,4 +1,6 @@
 // Sine, cosine, square root and arc tangent of an f64, by its own operations alone, so that their bits are the same everywhere.
+#![tactic(auto)]
+
 mod arctangent;
 mod checks;
 mod sine;

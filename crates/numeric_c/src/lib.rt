@@ -1,4 +1,6 @@
 // The numeric functions with C names, as a static library for programs in other languages. They test nothing.
+#![tactic(auto)]
+
 ghost use Rattle.std.specs.Prelude.{◌≡◌};
 ghost use Rattle.std.specs.Float.{binary64};
 ghost use Rattle.std.specs.Float as Floats;

@@ -1,5 +1,7 @@
 // Replays values from outside: each line has a function, the bits of its arguments and the bits of the f64 nearest to the exact value.
 // Prints every line whose answer is not within the bound, and of each function how many lines there were and the largest error.
+#![tactic(auto)]
+
 use numeric::{acos_approx, atan2, cos, sin, sqrt};
 use std::num::f64_from_bits_with_nan;
 

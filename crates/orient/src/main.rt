@@ -1,5 +1,7 @@
 // Reads lamps from standard input, one to a line: an order's name and three angles in radians.
 // Prints of each what was read, the axes of its order, its rotation and its beam; or why it is refused.
+#![tactic(auto)]
+
 use euler::{EulerRot, Order};
 use fault::{NumberFault, RotationFault};
 use quaternion::DQuat;

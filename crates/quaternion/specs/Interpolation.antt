@@ -2,7 +2,7 @@
 use Rattle.std.specs.Prelude.{ℕ, Bool, cond, ◌&&◌, Ok, Option, Result, Float}
 use Rattle.std.specs.Float.Ieee.{neg, lt, le}
 use Rattle.std.specs.Float.{float_clamp}
-use Rattle.fault.specs.Answers.{unless, within, ◌⨾◌, answer, tested}
+use Rattle.fault.specs.Answers.{unless, within, ◌⨾◌, answer}
 use Rattle.fault.specs.declared.NumberFault.{NumberFault}
 use Rattle.fault.specs.declared.NumberFault.TheVariants.{TooLarge}
 use Rattle.fault.specs.declared.RotationFault.{RotationFault}

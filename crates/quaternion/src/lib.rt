@@ -1,4 +1,6 @@
 // Rotations as quaternions of f64, after glam's DQuat.
+#![tactic(auto)]
+
 mod axes;
 mod dquat;
 mod euler_angles;

@@ -1,4 +1,5 @@
 // Examples at the edges, run after they are proved safe.
+#![tactic(auto)]
 
 #[cfg(test)]
 mod tests {

@@ -1,5 +1,5 @@
 -- The laws of the operations: each rounds its exact result. `limit` keeps clear of overflow.
-use Rattle.std.proofs.Common.{◌≡◌, ℕ, zero, suc, ◌^◌, Bool, true, false, not, T, pos, nat_abs, sym, refl, ap, ◌∙◌, subst, ap₂, inl, inr, eq-zero-or-pos, mul-pos, arith}
+use Rattle.std.proofs.Common.{◌≡◌, ℕ, ◌^◌, Bool, true, false, not, T, pos, nat_abs, sym, refl, ap, ◌∙◌, subst, ap₂, inl, inr, eq-zero-or-pos, mul-pos, arith}
 use Prim.Native.Nat as N
 use lib.Signed.{pos-nat_abs}
 use lib.Ieee as F

@@ -9,7 +9,7 @@ use Rattle.exact.specs.Fraction.{Frac, ◌over◌, whole, part}
 use Rattle.exact.proofs.Ring.{con, ◌⊕◌, ◌⊗◌, ⊖◌}
 use Rattle.exact.proofs.Rational.{ℚ, cls, ◌+◌, ◌*◌, neg, neg_cls, ∅, ◌▸◌, ◌≐◌, ring}
 use Rattle.exact.proofs.Order.{◌≤◌, number, ◌⊞◌, ◌⊠◌, ◌≼◌, ◌by◌, ◌⇒◌, le}
-use Rattle.exact.proofs.Within.{0#, 0ₑ, 1ₑ, num, 2⁻, computes, closed, ≤_trans, ≤_of, 0≤num, cancel, ◌within◌, within_≤, within_at, within_neg, within_nonneg, ◌≈⟨◌⟩◌, near, near_at, near_neg, num_≤, num_*, num_+, near_of}
+use Rattle.exact.proofs.Within.{0#, 0ₑ, 1ₑ, num, 2⁻, computes, closed, ≤_trans, ≤_of, 0≤num, cancel, ◌within◌, within_≤, within_at, within_neg, within_nonneg, ◌≈⟨◌⟩◌, near_at, near_neg, num_≤, num_*, num_+, near_of}
 use Rattle.exact.proofs.Numbers.{≤_num, num_max, over_num, as_over, 0<num}
 use Rattle.rounding.specs.Value.{signed, L, Is}
 use Rattle.rounding.specs.Theorems.{limit}

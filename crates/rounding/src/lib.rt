@@ -1,4 +1,6 @@
 // What the operations of f64 do to exact numbers. The laws stand in specs/Theorems.antt; each function here asks for the proof of some, and answers nothing but 0.
+#![tactic(auto)]
+
 ghost use Rattle.rounding.specs.Theorems.{SumLaw, DifferenceLaw, ProductLaw, QuotientLaw, RootLaw};
 ghost use Rattle.rounding.specs.Theorems.{LessLaw, AtMostLaw, UnitLaw};
 ghost use Rattle.rounding.specs.Theorems.{ValueLaw, HeldLaw, NegationLaw, OneLaw, ZeroLaw, NeighboursLaw, HalfLaw, MultipleLaw};

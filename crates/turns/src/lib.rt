@@ -1,4 +1,6 @@
 // Turns of a lamp, as a drawing or a desk gives them.
+#![tactic(auto)]
+
 use euler::{Axis, EulerRot};
 use quaternion::DQuat;
 

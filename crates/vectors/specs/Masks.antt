@@ -1,5 +1,5 @@
 -- Masks, and an index that is too high.
-use Rattle.std.specs.Prelude.{ℕ, zero, suc, ◌+◌, ◌*◌, Bool, true, false, cond, ◌&&◌, ◌||◌, Option, nat_lt}
+use Rattle.std.specs.Prelude.{ℕ, zero, suc, ◌+◌, ◌*◌, Bool, true, false, ◌&&◌, ◌||◌, Option, nat_lt}
 use Rattle.fault.specs.Answers.{unless}
 use Rattle.fault.specs.declared.RotationFault.{RotationFault}
 use Rattle.fault.specs.declared.RotationFault.TheVariants.{TooShort}

@@ -1,4 +1,6 @@
 // Vectors of f64 and masks, after glam's DVec2, DVec3, DVec4 and BVec4: what the quaternions and the Euler orders call of them.
+#![tactic(auto)]
+
 mod bvec4;
 mod dvec2;
 mod dvec3;

@@ -1,4 +1,4 @@
-use Rattle.std.proofs.Common.{◌≡◌, ℕ, Some, None, Err, sym, refl, ap, ◌∙◌, subst, add-one, arith, take_all}
+use Rattle.std.proofs.Common.{◌≡◌, ℕ, Some, None, Err, refl, ap, ◌∙◌, subst, add-one, arith, take_all}
 use lib.Ieee.{nan}
 use Rattle.std.proofs.lemmas.Result.{err_from_is_err_and}
 use Rattle.euler.specs.Lists.{first_fault}

@@ -9,7 +9,7 @@ use Rattle.euler.specs.declared.Axis.TheVariants.{X, Y, Z}
 use Rattle.euler.specs.declared.Order.{Order}
 use Rattle.numeric.specs.Floats.{zero, one}
 use Rattle.quaternion.specs.Quaternions.{parts, listed}
-use Rattle.drift.specs.Turns.{angle, place, four, assembled, parity}
+use Rattle.drift.specs.Turns.{angle, place, four, parity}
 use Rattle.quaternion.proofs.euler_angles.from_halves.Goals as goal
 use Rattle.quaternion.proofs.euler_angles.from_halves.Goals.{then-order, else-order, then-not-order, else-not-order}
 

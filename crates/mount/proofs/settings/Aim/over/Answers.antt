@@ -1,14 +1,11 @@
-use Rattle.std.proofs.Common.{◌≡◌, sym, ap, ◌∙◌, subst, ap₂, rules}
-use lib.Ieee.{Float}
+use Rattle.std.proofs.Common.{◌≡◌, sym, ap, ◌∙◌, ap₂, rules}
 use Rattle.fault.proofs.Tests.{ok_is}
-use Rattle.exact.specs.Quat.{Quat, product}
+use Rattle.exact.specs.Quat.{product}
 use Rattle.exact.specs.Turn.{X, Z}
 use Rattle.rounding.specs.Value.{floats}
-use Rattle.numeric.specs.Laws.{Angle}
 use Rattle.vectors.specs.Vectors.{normal_fault}
 use Rattle.drift.specs.Tests.{turn_fault}
-use Rattle.drift.specs.Turns.{about}
-use Rattle.drift.specs.Laws.{Kept, Sound, IsTurn, IsProduct, Turned, turned}
+use Rattle.drift.specs.Laws.{Sound, IsTurn, Turned, turned}
 use Rattle.drift.proofs.Tests.{gives_ok, gives_of}
 use Rattle.drift.proofs.Floats.{kept_sound}
 use Rattle.quaternion.specs.Quaternions.{parts, whole, about_x, about_z}

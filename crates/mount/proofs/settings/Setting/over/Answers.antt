@@ -4,7 +4,7 @@ use Rattle.exact.specs.Quat.{product}
 use Rattle.rounding.specs.Value.{floats}
 use Rattle.vectors.specs.Vectors.{normal_fault}
 use Rattle.drift.specs.Tests.{euler_fault}
-use Rattle.drift.specs.Laws.{Kept, Turned, turned}
+use Rattle.drift.specs.Laws.{Turned, turned}
 use Rattle.drift.specs.EulerLaws.{IsEulerTurn}
 use Rattle.drift.proofs.Tests.{gives_ok}
 use Rattle.drift.proofs.Floats.{kept_sound}

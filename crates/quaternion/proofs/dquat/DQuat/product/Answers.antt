@@ -1,4 +1,4 @@
-use Rattle.std.proofs.Common.{◌≡◌, get_or, fold, sym, ap, ◌∙◌, take_all}
+use Rattle.std.proofs.Common.{get_or, fold, sym, ap, ◌∙◌, take_all}
 use lib.Ieee.{nan}
 use Rattle.std.proofs.lemmas.List.Sums.{fold_more}
 use Rattle.quaternion.specs.Quaternions.{quat, whole}

@@ -1,4 +1,4 @@
-use Rattle.std.proofs.Common.{◌≡◌, rules}
+use Rattle.std.proofs.Common.{rules}
 use Rattle.quaternion.specs.Quaternions.{parts}
 use Rattle.quaternion.proofs.Accepted.{turns_on}
 use Rattle.quaternion.proofs.dquat.DQuat.turned.Goals as goal
