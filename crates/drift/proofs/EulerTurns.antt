@@ -24,7 +24,7 @@ use Rattle.euler.specs.declared.Order.{Order}
 use Rattle.euler.proofs.Turns.{letter, ends, both_ends, in_order, name_turn}
 use Rattle.drift.proofs.EulerAngles.{Sines, sines_of, flip, halved, ε, full, signed_half_sines, Small, small, pair_of, turned_back}
 use Rattle.drift.specs.Turns.{Angle, angle, place, four, assembled, parity, by_order}
-use Rattle.drift.specs.EulerLaws.{EulerTurnLaw}
+use Rattle.drift.specs.EulerLaws.{OrderTurnLaw}
 use Rattle.drift.proofs.Floats.{values, square_of, settles, beside, unit_within}
 use Rattle.drift.proofs.About.{along_apart}
 
@@ -147,9 +147,9 @@ module _ (o : Order) {t u v : Float × Float} (a b c : Frac) (ht : Sines t (exac
       ~_≤ (~_trans (settles {f = part 48} rounding tt)
       (three_near (turn_near i a (turned_back false (halved a) ht)) (turn_near j b (turned_back o.parity_even (halved b) hu)) (turn_near k c (turned_back false (halved c) hv)) (about_long i a) (about_long j b) (about_long k c))) (closed tt)
 
-pub euler_turn : EulerTurnLaw
+pub order_turn : OrderTurnLaw
 unfolding computes by_order
-euler_turn n x y z hx hy hz =
+order_turn n x y z hx hy hz =
     let o = order n in
     let l = letters n in
     let e = o.parity_even in

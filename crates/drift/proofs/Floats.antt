@@ -14,7 +14,7 @@ use Rattle.rounding.specs.Value.{floats}
 use Rattle.rounding.proofs.Values.{#◌}
 use Rattle.rounding.proofs.Approx.{◌≤ᵇ◌, known_≤, itself}
 use Rattle.rounding.proofs.Analysis.{forms, Approxs, ∎, ◌⊵◌, analyse4}
-use Rattle.drift.specs.Laws.{Are, UnitWithin, Kept, Sound, ProductLaw}
+use Rattle.drift.specs.Laws.{Are, UnitWithin, Kept, Sound, IsProduct, ProductLaw}
 
 abbrev pub values : Quat Float → Quat ℚ
 values q = record { x = # q.x; y = # q.y; z = # q.z; w = # q.w }
@@ -132,6 +132,10 @@ pub product_sound : {p q : Quat Float} → Kept p → Kept q → Sound (product 
 unfolding computes
 product_sound {p} {q} h k = unit_within (product_near (kept_sound h) k).0 (near_≤ (product_square (kept_sound h) k (product_length (values p) (values q) (length_of h) (length_of k)) (closed tt)) (closed tt))
 
-pub is_product : ProductLaw
+pub product_law : ProductLaw
 unfolding computes
-is_product p q h k = let r = product_near h k in record { are = r.0; near = back _ _ _ r.1; sound = λ kept. product_sound kept k }
+product_law p q h k = let r = product_near h k in record { are = r.0; near = back _ _ _ r.1; sound = λ kept. product_sound kept k }
+
+-- as the contract of `mul_quat` says it
+pub is_product : (p q : Quat Float) → IsProduct p q (product floats p q)
+is_product p q h k = let r = product_law p q (kept_sound h) k in (r.are, r.near)

@@ -8,7 +8,7 @@ use Rattle.exact.specs.Fraction.{Frac, 1ᶠ, whole, part, ◌+ᶠ◌, ◌-ᶠ◌
 use Rattle.exact.specs.Quat.{Quat, square, scale}
 use Rattle.exact.proofs.Ring.{con, ◌⊕◌, ◌⊗◌, ⊖◌}
 use Rattle.exact.proofs.Rational.{ℚ, cls, ◌+◌, ◌*◌, ◌-◌, ∅, ◌▸◌, ◌▹◌}
-use Rattle.exact.proofs.Order.{◌≤◌, squared, number, ◌⊞◌, ◌⊠◌, ◌≼◌, ◌by◌, ◌⇒◌, le, from_frac}
+use Rattle.exact.proofs.Order.{◌≤◌, squared, number, ◌⊞◌, ◌⊠◌, ◌≼◌, ◌by◌, ◌⇒◌, le, from_frac, to_frac}
 use Rattle.exact.proofs.Distance.{back}
 use Rattle.exact.proofs.Within.{0#, 1#, 0ₑ, 2⁻, closed, computes, ≤_trans, root, ◌within◌, ◌≈⟨◌⟩◌, near_≤, near_trans}
 use Rattle.exact.proofs.Quats.{ops, exs, ◌~⟨◌⟩◌, ~_≤}
@@ -23,7 +23,7 @@ use Rattle.rounding.proofs.Operations.{product_rounds, quotient_above, root_roun
 use Rattle.rounding.proofs.Approx.{known_≤, u, tiny, grown}
 use Rattle.numeric.specs.Floats.{bits, one}
 use Rattle.vectors.specs.Vectors.{recip, overflows, underflows, scaled, normal, normal_fault, finite4}
-use Rattle.drift.specs.Laws.{Are, Ample, Normalised, NormalLaw}
+use Rattle.drift.specs.Laws.{Are, Ample, Broad, Normalised, NormalLaw}
 use Rattle.drift.proofs.Tests.{not_infinite, are_finite, not_below}
 use Rattle.drift.proofs.Floats.{values, unit_within, together, x², y², z², w², by_square}
 use Rattle.drift.proofs.Normal.{σ, β, η, scaled_up, normal_length, moved}
@@ -143,9 +143,13 @@ module _ {q : Quat Float} (i : Are q) (lo : 2⁻ 3 ≤ square ops (values q)) (h
   pub normal_moved : {δ : ℚ} → 0# ≤ δ → δ ≤ 1# → (1# - δ) * (1# - δ) ≤ square ops Q → square ops Q ≤ (1# + δ) * (1# + δ) → values (normal q) ~⟨ δ + 2⁻ 48 ⟩ Q
   normal_moved {δ} d₀ d₁ l h = subst (λ p. values p ~⟨ δ + 2⁻ 48 ⟩ Q) (sym is_scaled) (moved Q (# S) (# R) S_near.2 R_near.1 (values P) P_near.1 δ S_near.1 d₀ d₁ l h)
 
--- ---- as the contract of `normalize` says it
+-- ---- as the law says it
 
-pub normalised : {q : Quat Float} → Ample q → Normalised q (normal q)
+pub ample_broad : {q : Quat Float} → Ample q → Broad q
+unfolding computes
+ample_broad {q} h = record { are = h.are; least = to_frac _ _ (≤_trans (closed tt) (from_frac _ _ h.least)); most = h.most }
+
+pub normalised : {q : Quat Float} → Broad q → Normalised q (normal q)
 unfolding computes
 normalised {q} h =
     let lo = from_frac _ _ h.least in

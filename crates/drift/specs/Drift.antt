@@ -12,7 +12,7 @@ use Rattle.numeric.specs.Floats.{zero, two, minus_one}
 use Rattle.euler.specs.Orders.{letters}
 use Rattle.euler.specs.declared.EulerRot.{EulerRot}
 use Rattle.drift.specs.Laws.{exact, exact3, Kept, IsTurn, turned}
-use Rattle.drift.specs.EulerLaws.{IsEulerTurn}
+use Rattle.drift.specs.EulerLaws.{IsOrderTurn}
 
 abbrev pub count : ℕ → Frac
 count n = whole (pos n)
@@ -28,7 +28,7 @@ abbrev pub AxisFair : Type 0
 AxisFair = (axis : Axis) (v : Float) (q : Quat Float) → IsTurn axis v q → Fair q (about axis (val v))
 
 abbrev pub EulerFair : Type 0
-EulerFair = (n : EulerRot) (x y z : Float) (q : Quat Float) → IsEulerTurn n x y z q → Fair q (exact_turn (letters n) (val x) (val y) (val z))
+EulerFair = (n : EulerRot) (x y z : Float) (q : Quat Float) → IsOrderTurn n x y z q → Fair q (exact_turn (letters n) (val x) (val y) (val z))
 
 -- k is kept, and n turns off p
 pub record Drifted (n : ℕ) (k : Quat Float) (p : Quat Frac) : Type 0 where

@@ -18,12 +18,12 @@ use Rattle.drift.specs.Laws.{exact, Kept}
 
 -- q is the turn of the name n by the angles x, y and z. Each of the six sines and cosines is 2⁻⁴⁴ off, so each of the three turns √2 · 2⁻⁴⁴,
 -- and with the roundings all is below 5 · 2⁻⁴⁴, so that the squared length is 10 · 2⁻⁴⁴ off at most; 2⁻³⁸ leaves room
-pub record IsEulerTurn (n : EulerRot) (x y z : Float) (q : Quat Float) : Type 0 where
+pub record IsOrderTurn (n : EulerRot) (x y z : Float) (q : Quat Float) : Type 0 where
   pub kept : Kept q
   pub near : Near (exact q) (part 38) (exact_turn (letters n) (val x) (val y) (val z))
 
-abbrev pub EulerTurnLaw : Type 0
-EulerTurnLaw = (n : EulerRot) (x y z : Float) → Angle x → Angle y → Angle z → IsEulerTurn n x y z (by_order (order n) x y z)
+abbrev pub OrderTurnLaw : Type 0
+OrderTurnLaw = (n : EulerRot) (x y z : Float) → Angle x → Angle y → Angle z → IsOrderTurn n x y z (by_order (order n) x y z)
 
 -- each number of v is finite and within 2⁻³⁸ of that of w. A sine or cosine is 2⁻⁴⁴ off; two products and a sum for each of three turns make of it 24 · 2⁻⁴⁴ at most
 pub record IsColumn (v : Vec Float) (w : Vec Frac) : Type 0 where

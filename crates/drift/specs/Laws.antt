@@ -38,8 +38,14 @@ Kept q = UnitWithin (part 40) q
 abbrev pub Sound : Quat Float → Type 0
 Sound q = UnitWithin (part 38) q
 
--- finite, and of squared length from 1/8 to 4
+-- finite, and of squared length from 1/4 to 4
 pub record Ample (q : Quat Float) : Type 0 where
+  pub are : Are q
+  pub least : part 2 ≤ᶠ square fractions (exact q)
+  pub most : square fractions (exact q) ≤ᶠ whole (pos 4)
+
+-- finite, and of squared length from 1/8 to 4
+pub record Broad (q : Quat Float) : Type 0 where
   pub are : Are q
   pub least : part 3 ≤ᶠ square fractions (exact q)
   pub most : square fractions (exact q) ≤ᶠ whole (pos 4)
@@ -58,14 +64,18 @@ Gives P (Err e) = ⊥
 
 -- ---- what the functions promise
 
--- r is p q. In a part, 4 products of size 1 and sums of size 2, 3 and 4 are rounded: 13 · 2⁻⁵³ is below 2⁻⁴⁹; four parts that are 2⁻⁴⁹ off lie within 2⁻⁴⁸
+-- r is p q, for p and q that are kept. In a part, 4 products of size 1 and sums of size 2, 3 and 4 are rounded: 13 · 2⁻⁵³ is below 2⁻⁴⁹; four parts that are 2⁻⁴⁹ off lie within 2⁻⁴⁸
+abbrev pub IsProduct : Quat Float → Quat Float → Quat Float → Type 0
+IsProduct p q r = Kept p → Kept q → Are r × Near (exact r) (part 48) (product fractions (exact p) (exact q))
+
+-- the same where p is sound, and what r is for a p that is kept
 pub record Product (p q r : Quat Float) : Type 0 where
   pub are : Are r
   pub near : Near (exact r) (part 48) (product fractions (exact p) (exact q))
   pub sound : Kept p → Sound r
 
-abbrev pub IsProduct : Quat Float → Quat Float → Quat Float → Type 0
-IsProduct p q r = Sound p → Kept q → Product p q r
+abbrev pub IsSoundProduct : Quat Float → Quat Float → Quat Float → Type 0
+IsSoundProduct p q r = Sound p → Kept q → Product p q r
 
 -- n is q normalised: its squared length is off by 2⁻⁵⁰ for its factor and 2⁻⁵¹ for the products, and it lies no further from q than the length of q is from 1, but for 2⁻⁴⁸
 pub record Normalised (q n : Quat Float) : Type 0 where
@@ -111,10 +121,10 @@ abbrev pub turned : Quat Float → Quat Float → Quat Float
 turned k t = normal (product floats k t)
 
 abbrev pub ProductLaw : Type 0
-ProductLaw = (p q : Quat Float) → IsProduct p q (product floats p q)
+ProductLaw = (p q : Quat Float) → IsSoundProduct p q (product floats p q)
 
 abbrev pub NormalLaw : Type 0
-NormalLaw = (q : Quat Float) → Ample q → Normalised q (normal q) × (normal_fault q ≡ None)
+NormalLaw = (q : Quat Float) → Broad q → Normalised q (normal q) × (normal_fault q ≡ None)
 
 abbrev pub TurnedLaw : Type 0
 TurnedLaw = (k t : Quat Float) → IsTurned k t (turned k t) × (Sound k → Kept t → normal_fault (product floats k t) ≡ None)

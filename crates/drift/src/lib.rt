@@ -2,7 +2,7 @@
 #![tactic(auto)]
 
 ghost use Rattle.drift.specs.Laws.{ProductLaw, NormalLaw, TurnedLaw, TurnLaw, ImageLaw};
-ghost use Rattle.drift.specs.EulerLaws.{EulerTurnLaw, EulerColumnLaw};
+ghost use Rattle.drift.specs.EulerLaws.{OrderTurnLaw, EulerColumnLaw};
 ghost use Rattle.drift.specs.Drift.{AxisFair, EulerFair, Hung, TurnDrifts, Told, Beam};
 
 // Products, normalising, turns about an axis, images.
@@ -18,7 +18,7 @@ pub fn laws_stand() -> u8
 
 // The turns and the matrices of all Euler orders.
 pub fn orders_stand() -> u8
-    ensures turn { EulerTurnLaw }
+    ensures turn { OrderTurnLaw }
     ensures column { EulerColumnLaw }
 {
     0

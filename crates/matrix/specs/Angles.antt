@@ -2,6 +2,7 @@
 use Rattle.std.specs.Prelude.{ℕ, Bool, true, false, cond, Float}
 use Rattle.std.specs.Float.Ieee.{neg, lt}
 use Rattle.std.specs.Float.{sqrt, binary64}
+use Rattle.rounding.specs.Value.{floats}
 use Rattle.numeric.specs.Floats.{◌⊕◌, ◌⊗◌, bits}
 use Rattle.numeric.specs.ArcTangent.{atan2_float}
 use Rattle.vectors.specs.Vectors.{vector}
@@ -9,18 +10,22 @@ use Rattle.euler.specs.Orders.{order, angle_order}
 use Rattle.euler.specs.declared.Axis.TheVariants.{X, Y, Z}
 use Rattle.euler.specs.declared.EulerRot.{EulerRot}
 use Rattle.euler.specs.declared.Order.{Order}
-use Rattle.drift.specs.Columns.{Nine, placed_column, column}
+use Rattle.drift.specs.Turns.{signed}
+use Rattle.drift.specs.Columns.{Nine, nine, placed_column, sin_cos}
 use Rattle.matrix.specs.declared.dmat3.DMat3.{DMat3}
 use Rattle.matrix.specs.Matrices.{matrix, entry}
 
 -- ---- from angles
 
--- nine numbers to their columns and rows
 abbrev pub placed : Order → Nine Float → DMat3
 placed o n = matrix (vector (placed_column o n X)) (vector (placed_column o n Y)) (vector (placed_column o n Z))
 
+-- with Ex the angles are read backwards; all are taken at the opposite where the parity is even
 unfoldable pub by_order : Order → Float → Float → Float → DMat3
-by_order o x y z = matrix (vector (column o x y z X)) (vector (column o x y z Y)) (vector (column o x y z Z))
+by_order o x y z =
+    let ends : Float × Float = cond o.frame_static (x, z) (z, x) in
+    let even = o.parity_even in
+    placed o (nine floats o.initial_repeated (sin_cos (signed even ends.0)) (sin_cos (signed even y)) (sin_cos (signed even ends.1)))
 
 unfoldable pub from_euler : EulerRot → Float → Float → Float → DMat3
 from_euler n x y z = by_order (order n) x y z

@@ -7,7 +7,7 @@ ghost use Rattle.drift.specs.Drift.{Stands, hung};
 ghost use Rattle.quaternion.specs.Quaternions.{parts};
 ghost use Rattle.mount.specs.Facts.{UnitAt, deepest};
 ghost use Rattle.mount.specs.Standing.{floor_stands};
-ghost use Rattle.std.proofs.Common.{rules};
+ghost use Rattle.mount.specs.Laws.{floor_shallow, floor_unit};
 
 use quaternion::DQuat;
 
@@ -44,9 +44,9 @@ impl Mount for Floor {
 
     ghost answers = { λ _ q. q ≡ hung };
 
-    ghost shallow = { Prim.search rules };
+    ghost shallow = { λ _. floor_shallow };
 
-    ghost unit = { Prim.search rules };
+    ghost unit = { λ _. floor_unit };
 
     ghost stands = { λ m q e. floor_stands q e };
 

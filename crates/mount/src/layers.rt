@@ -1,21 +1,8 @@
 // Layers over any mount. A layer holds the mount below by value and lends it to nobody, so that what stands below it stays as it is.
-ghost use Rattle.std.specs.Prelude.{◌≡◌, ℕ, ◌+◌, None};
-ghost use Rattle.std.proofs.Math.Path.{subst};
-ghost use Rattle.mount.specs.Facts.{angles_fault, swings_fault, UnitAt};
-ghost use Rattle.mount.specs.Layers.{over, deeper, layer_fault, Over, IsSet, set_truth, set_floats, IsPointed, aim_truth, aim_floats, Decided, set_turn};
-ghost use Rattle.std.proofs.Common.{arith, rules, add_assoc};
-ghost use Rattle.exact.specs.Turn.{exact_turn, X, Z, about};
-ghost use Rattle.exact.proofs.Within.{computes, closed, near_≤};
-ghost use Rattle.exact.proofs.Turns.{exact_turn_length, about_length};
-ghost use Rattle.rounding.specs.Value.{val};
-ghost use Rattle.euler.specs.Orders.{letters};
-ghost use Rattle.mount.specs.Standing.{turn_unit, layer_unit, turn_stands, layer_stands, aim_stands};
-ghost use Rattle.drift.proofs.Fair.{euler_fair};
-ghost use Rattle.drift.proofs.EulerTurns.{euler_turn};
-ghost use Rattle.mount.specs.Passing.{set_angles, aim_angles};
-ghost use Rattle.exact.specs.Quat.{fractions, product};
-ghost use Rattle.drift.specs.Turns as F;
-ghost use Rattle.drift.proofs.About.{turn_law};
+ghost use Rattle.std.specs.Prelude.{◌≡◌, None};
+ghost use Rattle.mount.specs.Facts.{angles_fault, swings_fault};
+ghost use Rattle.mount.specs.Layers.{over, deeper, layer_fault, Over, IsSet, set_truth, set_floats, IsPointed, aim_truth, aim_floats, Decided};
+ghost use Rattle.mount.specs.Laws.{layer_shallow, bracket_unit, bracket_stands, yoke_unit, yoke_stands};
 
 use crate::below::Mount;
 use crate::settings::{Aim, Setting};
@@ -59,23 +46,11 @@ impl<M: Mount> Mount for Bracket<M> {
 
     ghost answers = { λ b. Over 1 (M.Mount.deep b.below) set_floats b.set (M.Mount.answers b.below) };
 
-    ghost shallow = { Prim.search rules };
+    ghost shallow = { λ l. layer_shallow 1 (M.Mount.deep l.below) l.set (M.Mount.shallow l.below) };
 
-    ghost unit = { unfold computes in
-        λ b.
-        let d = M.Mount.deep b.below in
-        let t = M.Mount.truth b.below in
-        layer_unit 1 d set_truth t b.set (M.Mount.unit b.below)
-        (λ s l. turn_unit d t (exact_turn (letters s.name) (val s.a) (val s.b) (val s.c)) (omega arith) (M.Mount.unit b.below) (near_≤ (exact_turn_length (letters s.name) (val s.a) (val s.b) (val s.c)) (closed tt))) };
+    ghost unit = { λ l. bracket_unit (M.Mount.deep l.below) (M.Mount.truth l.below) l.set (M.Mount.unit l.below) };
 
-    ghost stands = { λ b q h.
-        let d = M.Mount.deep b.below in
-        let t = M.Mount.truth b.below in
-        layer_stands 1 d set_truth t set_floats b.set (M.Mount.answers b.below) q h (M.Mount.stands b.below)
-        (λ s m l k.
-        let angles = set_angles s.a s.b s.c s.fits_a s.fits_b s.fits_c s.fine in
-        turn_stands d m (set_turn s) t (exact_turn (letters s.name) (val s.a) (val s.b) (val s.c)) (omega arith) k
-        (euler_fair s.name s.a s.b s.c (set_turn s) (euler_turn s.name s.a s.b s.c angles.0 angles.1 angles.2))) };
+    ghost stands = { λ l q h. bracket_stands (M.Mount.deep l.below) (M.Mount.truth l.below) l.set (M.Mount.answers l.below) q h (M.Mount.stands l.below) };
 
     fn orientation(&self) -> DQuat {
         let below = self.below.orientation();
@@ -138,25 +113,11 @@ impl<M: Mount> Mount for Yoke<M> {
 
     ghost answers = { λ b. Over 2 (M.Mount.deep b.below) aim_floats b.pointed (M.Mount.answers b.below) };
 
-    ghost shallow = { Prim.search rules };
+    ghost shallow = { λ l. layer_shallow 2 (M.Mount.deep l.below) l.pointed (M.Mount.shallow l.below) };
 
-    ghost unit = { unfold computes in
-        λ b.
-        let d = M.Mount.deep b.below in
-        let t = M.Mount.truth b.below in
-        layer_unit 2 d aim_truth t b.pointed (M.Mount.unit b.below)
-        (λ s l.
-        let panned = turn_unit d t (about Z (val s.pan)) (omega arith) (M.Mount.unit b.below) (near_≤ (about_length Z (val s.pan)) (closed tt)) in
-        subst (λ (n : ℕ). UnitAt n (aim_truth s t)) (add_assoc d 1 1)
-        (turn_unit (d + 1) (product fractions t (about Z (val s.pan))) (about X (val s.tilt)) (omega arith) panned (near_≤ (about_length X (val s.tilt)) (closed tt)))) };
+    ghost unit = { λ l. yoke_unit (M.Mount.deep l.below) (M.Mount.truth l.below) l.pointed (M.Mount.unit l.below) };
 
-    ghost stands = { λ b q h.
-        let d = M.Mount.deep b.below in
-        let t = M.Mount.truth b.below in
-        layer_stands 2 d aim_truth t aim_floats b.pointed (M.Mount.answers b.below) q h (M.Mount.stands b.below)
-        (λ s m l k.
-        let angles = aim_angles s.pan s.tilt s.fits_pan s.fits_tilt s.fine in
-        aim_stands d m (F.about Z s.pan) (F.about X s.tilt) t s.pan s.tilt (omega arith) k (turn_law Z s.pan angles.0).0 (turn_law X s.tilt angles.1).0) };
+    ghost stands = { λ l q h. yoke_stands (M.Mount.deep l.below) (M.Mount.truth l.below) l.pointed (M.Mount.answers l.below) q h (M.Mount.stands l.below) };
 
     fn orientation(&self) -> DQuat {
         let below = self.below.orientation();

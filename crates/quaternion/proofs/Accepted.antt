@@ -16,7 +16,7 @@ use Rattle.drift.specs.Tests.{turn_fault, image_fault}
 use Rattle.drift.specs.Turns.{about}
 use Rattle.drift.specs.Laws.{Ample, Normalised, Turned, turned, IsTurn, Kept, Sound, Units, IsImage, Gives}
 use Rattle.drift.proofs.Tests.{accepted}
-use Rattle.drift.proofs.Normalize.{normal_law}
+use Rattle.drift.proofs.Normalize.{ample_broad, normal_law}
 use Rattle.drift.proofs.Step.{turned_law}
 use Rattle.drift.proofs.About.{turn_law}
 use Rattle.drift.proofs.Images.{image_law}
@@ -27,7 +27,7 @@ abbrev Answer : Type 0
 Answer = Result DQuat RotationFault
 
 pub normalises : (q : Quat Float) (r : Answer) → r ≡ answer (normal_fault q) (whole (normal q)) → Ample q → Gives (λ n. Normalised q (parts n)) r
-normalises q r e h = let l = normal_law q h in accepted (λ n. Normalised q (parts n)) r e l.1 l.0
+normalises q r e h = let l = normal_law q (ample_broad h) in accepted (λ n. Normalised q (parts n)) r e l.1 l.0
 
 pub turns_on : (k t : Quat Float) (r : Answer) → r ≡ answer (normal_fault (product floats k t)) (whole (turned k t)) → Sound k → Kept t → Gives (λ n. Turned k t (parts n)) r
 turns_on k t r e h g = let l = turned_law k t in accepted (λ n. Turned k t (parts n)) r e (l.1 h g) (l.0 h g)

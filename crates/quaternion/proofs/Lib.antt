@@ -1,1 +1,3 @@
 pub mod Accepted
+mod Step
+mod Drift

@@ -4,3 +4,5 @@ pub mod Interpolation
 pub mod Axes
 pub mod Matrices
 pub mod Sums
+pub mod EulerLaws
+pub mod Drift

@@ -6,9 +6,8 @@ use Rattle.fault.specs.Answers.{unless}
 use Rattle.fault.specs.declared.RotationFault.{RotationFault}
 use Rattle.fault.specs.declared.RotationFault.TheVariants.{TooShort}
 use Rattle.exact.specs.Quat.{Quat}
-use Rattle.exact.specs.Turn.{X, Y, Z}
-use Rattle.numeric.specs.Floats.{bits, size}
-use Rattle.drift.specs.Turns.{about}
+use Rattle.numeric.specs.Floats.{◌⊗◌, bits, size, zero, half}
+use Rattle.numeric.specs.Sine.{sin_float, cos_float}
 use Rattle.quaternion.specs.declared.dquat.DQuat.{DQuat}
 
 abbrev pub quat : Float → Float → Float → Float → DQuat
@@ -27,13 +26,13 @@ listed a = quat (slice_index_or a 0 nan) (slice_index_or a 1 nan) (slice_index_o
 -- ---- a turn about one axis
 
 abbrev pub about_x : Float → DQuat
-about_x angle = whole (about X angle)
+about_x angle = quat (sin_float (angle ⊗ half)) zero zero (cos_float (angle ⊗ half))
 
 abbrev pub about_y : Float → DQuat
-about_y angle = whole (about Y angle)
+about_y angle = quat zero (sin_float (angle ⊗ half)) zero (cos_float (angle ⊗ half))
 
 abbrev pub about_z : Float → DQuat
-about_z angle = whole (about Z angle)
+about_z angle = quat zero zero (sin_float (angle ⊗ half)) (cos_float (angle ⊗ half))
 
 -- |w| > 1 − 10⁻¹⁴
 abbrev pub near_identity : Quat Float → Bool

@@ -14,7 +14,7 @@ ghost use Rattle.quaternion.specs.Euler.{from_euler};
 ghost use Rattle.exact.specs.Turn as Turn;
 ghost use Rattle.numeric.specs.Laws.{Angle};
 ghost use Rattle.drift.specs.Laws.{Ample, Normalised, IsProduct, Turned, turned, IsTurn, Kept, Sound, Units, IsImage, Gives};
-ghost use Rattle.drift.specs.EulerLaws.{IsEulerTurn};
+ghost use Rattle.quaternion.specs.EulerLaws.{IsEulerTurn};
 
 use euler::{EulerRot, FromEuler};
 use fault::{NumberFault, RotationFault};

@@ -1,6 +1,9 @@
 // Rotations as quaternions of f64, after glam's DQuat.
 #![tactic(auto)]
 
+ghost use Rattle.drift.specs.Drift.{Beam};
+ghost use Rattle.quaternion.specs.Drift.{Step, AxisFair, Drift, Told, Lamp};
+
 mod axes;
 mod dquat;
 mod euler_angles;
@@ -10,3 +13,15 @@ mod sums;
 
 pub use dquat::DQuat;
 pub use matrices::FromQuat;
+
+// What a run of turns keeps of the exact product, and its beam.
+pub fn drift_stands() -> u8
+    ensures step { Step }
+    ensures fair { AxisFair }
+    ensures drift { Drift }
+    ensures told { Told }
+    ensures lamp { Lamp }
+    ensures beam { Beam }
+{
+    0
+}

@@ -6,10 +6,10 @@ use Rattle.euler.specs.declared.EulerRot.{EulerRot}
 use Rattle.drift.proofs.EulerTests.{angles_pass}
 use Rattle.drift.proofs.EulerColumns.{euler_column}
 use Rattle.matrix.specs.Angles.{by_order, from_euler}
-use Rattle.matrix.specs.EulerLaws.{IsEulerMatrix}
+use Rattle.matrix.specs.EulerLaws.{IsEulerMatrix, EulerMatrixLaw}
 use Rattle.matrix.proofs.dmat3.DMat3.from_euler.Goals as goal
 
-euler_matrix : (n : EulerRot) (x y z : Float) → Angle x → Angle y → Angle z → IsEulerMatrix n x y z (from_euler n x y z)
+euler_matrix : EulerMatrixLaw
 unfolding from_euler by_order
 euler_matrix n x y z hx hy hz = let column = euler_column n x y z hx hy hz in record { x_axis = column X; y_axis = column Y; z_axis = column Z }
 

@@ -1,4 +1,4 @@
-use Rattle.std.proofs.Common.{◌≡◌, sym, ap, ◌∙◌, ap₂, rules}
+use Rattle.std.proofs.Common.{◌≡◌, sym, ap, ◌∙◌, ap₂, subst, rules}
 use Rattle.fault.proofs.Tests.{ok_is}
 use Rattle.exact.specs.Quat.{product}
 use Rattle.exact.specs.Turn.{X, Z}
@@ -7,7 +7,7 @@ use Rattle.vectors.specs.Vectors.{normal_fault}
 use Rattle.drift.specs.Tests.{turn_fault}
 use Rattle.drift.specs.Laws.{Sound, IsTurn, Turned, turned}
 use Rattle.drift.proofs.Tests.{gives_ok, gives_of}
-use Rattle.drift.proofs.Floats.{kept_sound}
+use Rattle.drift.proofs.Floats.{product_sound}
 use Rattle.quaternion.specs.Quaternions.{parts, whole, about_x, about_z}
 use Rattle.mount.specs.Passing.{aim_angles}
 use Rattle.mount.proofs.settings.Aim.over.Goals as goal
@@ -29,7 +29,7 @@ unwrap-requires c =
     let pan = gives_of (λ q. IsTurn Z s.pan (parts q)) c.unwrap-pan.ensures (c.from_rotation_z.ensures.turn angles.0) in
     let tilt = gives_of (λ q. IsTurn X s.tilt (parts q)) c.unwrap-tilt.ensures (c.from_rotation_x.ensures.turn angles.1) in
     let m = parts c.mul_quat.result in
-    let sound : Sound m = (c.mul_quat.ensures.near (kept_sound c.requires) pan.kept).sound c.requires in
+    let sound : Sound m = subst Sound (sym c.mul_quat.ensures.value) (product_sound c.requires pan.kept) in
     gives_ok (λ n. Turned m (parts c.unwrap-tilt.result) (parts n)) c.turned.result (c.turned.ensures.near sound tilt.kept)
 
 pub returns : goal.returns

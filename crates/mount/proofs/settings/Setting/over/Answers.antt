@@ -5,11 +5,11 @@ use Rattle.rounding.specs.Value.{floats}
 use Rattle.vectors.specs.Vectors.{normal_fault}
 use Rattle.drift.specs.Tests.{euler_fault}
 use Rattle.drift.specs.Laws.{Turned, turned}
-use Rattle.drift.specs.EulerLaws.{IsEulerTurn}
 use Rattle.drift.proofs.Tests.{gives_ok}
 use Rattle.drift.proofs.Floats.{kept_sound}
 use Rattle.quaternion.specs.Quaternions.{parts, whole}
 use Rattle.quaternion.specs.Euler.{from_euler}
+use Rattle.quaternion.specs.EulerLaws.{IsEulerTurn}
 use Rattle.mount.specs.Layers.{set_turn}
 use Rattle.mount.proofs.settings.Setting.over.Goals as goal
 

@@ -1,0 +1,74 @@
+-- The laws that the trait asks of each kind of mount.
+use Rattle.std.specs.Prelude.{◌≡◌, ℕ, ◌+◌, ◌≤◌, Bool, true, false, cond, Some, None, Option, nat_le, refl, Float}
+use Rattle.std.proofs.Common.{subst, leb-true, arith, rules, add_assoc}
+use Rattle.exact.specs.Fraction.{Frac}
+use Rattle.exact.specs.Quat.{Quat, fractions, product}
+use Rattle.exact.specs.Turn.{X, Z, about, exact_turn}
+use Rattle.exact.specs.Facts.{one}
+use Rattle.exact.proofs.Within.{computes, closed, near_≤}
+use Rattle.exact.proofs.Turns.{exact_turn_length, about_length}
+use Rattle.rounding.specs.Value.{val}
+use Rattle.euler.specs.Orders.{letters}
+use Rattle.drift.specs.Turns as F
+use Rattle.drift.specs.Drift.{Stands}
+use Rattle.drift.proofs.Fair.{euler_fair}
+use Rattle.drift.proofs.EulerTurns.{order_turn}
+use Rattle.drift.proofs.About.{turn_law}
+use Rattle.mount.specs.Facts.{UnitAt, deepest}
+use Rattle.mount.specs.Layers.{over, deeper, Over, set_turn, set_truth, set_floats, aim_truth, aim_floats}
+use Rattle.mount.specs.Standing.{turn_unit, turn_stands, aim_stands, layer_unit, layer_stands}
+use Rattle.mount.specs.Passing.{set_angles, aim_angles}
+use Rattle.mount.specs.declared.settings.Setting.{Setting}
+use Rattle.mount.specs.declared.settings.Aim.{Aim}
+
+-- ---- the floor
+
+pub floor_shallow : 0 ≤ deepest
+floor_shallow = omega arith
+
+pub floor_unit : UnitAt 0 one
+floor_unit = search rules
+
+-- ---- any layer
+
+pub layer_shallow : {S : Type 0} (more d : ℕ) (o : Option S) → d ≤ deepest → deeper more o d ≤ deepest
+layer_shallow more d None h = h
+layer_shallow more d (Some s) h = go (nat_le (d + more) deepest) refl
+  where
+    go : (b : Bool) → nat_le (d + more) deepest ≡ b → cond b (d + more) d ≤ deepest
+    go true e = leb-true _ _ e
+    go false e = h
+
+-- ---- a bracket
+
+pub bracket_unit : (d : ℕ) (t : Quat Frac) (o : Option Setting) → UnitAt d t → UnitAt (deeper 1 o d) (over 1 d set_truth o t)
+unfolding computes
+bracket_unit d t o h =
+    layer_unit 1 d set_truth t o h
+    (λ s l. turn_unit d t (exact_turn (letters s.name) (val s.a) (val s.b) (val s.c)) (omega arith) h (near_≤ (exact_turn_length (letters s.name) (val s.a) (val s.b) (val s.c)) (closed tt)))
+
+pub bracket_stands : (d : ℕ) (t : Quat Frac) (o : Option Setting) (P : Quat Float → Type 0) (q : Quat Float) → Over 1 d set_floats o P q → ((m : Quat Float) → P m → Stands d m t) → Stands (deeper 1 o d) q (over 1 d set_truth o t)
+bracket_stands d t o P q h below =
+    layer_stands 1 d set_truth t set_floats o P q h below
+    (λ s m l k.
+    let angles = set_angles s.a s.b s.c s.fits_a s.fits_b s.fits_c s.fine in
+    turn_stands d m (set_turn s) t (exact_turn (letters s.name) (val s.a) (val s.b) (val s.c)) (omega arith) k
+    (euler_fair s.name s.a s.b s.c (set_turn s) (order_turn s.name s.a s.b s.c angles.0 angles.1 angles.2)))
+
+-- ---- a yoke
+
+pub yoke_unit : (d : ℕ) (t : Quat Frac) (o : Option Aim) → UnitAt d t → UnitAt (deeper 2 o d) (over 2 d aim_truth o t)
+unfolding computes
+yoke_unit d t o h =
+    layer_unit 2 d aim_truth t o h
+    (λ s l.
+    let panned = turn_unit d t (about Z (val s.pan)) (omega arith) h (near_≤ (about_length Z (val s.pan)) (closed tt)) in
+    subst (λ (n : ℕ). UnitAt n (aim_truth s t)) (add_assoc d 1 1)
+    (turn_unit (d + 1) (product fractions t (about Z (val s.pan))) (about X (val s.tilt)) (omega arith) panned (near_≤ (about_length X (val s.tilt)) (closed tt))))
+
+pub yoke_stands : (d : ℕ) (t : Quat Frac) (o : Option Aim) (P : Quat Float → Type 0) (q : Quat Float) → Over 2 d aim_floats o P q → ((m : Quat Float) → P m → Stands d m t) → Stands (deeper 2 o d) q (over 2 d aim_truth o t)
+yoke_stands d t o P q h below =
+    layer_stands 2 d aim_truth t aim_floats o P q h below
+    (λ s m l k.
+    let angles = aim_angles s.pan s.tilt s.fits_pan s.fits_tilt s.fine in
+    aim_stands d m (F.about Z s.pan) (F.about X s.tilt) t s.pan s.tilt (omega arith) k (turn_law Z s.pan angles.0).0 (turn_law X s.tilt angles.1).0)

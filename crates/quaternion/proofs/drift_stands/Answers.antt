@@ -1,0 +1,6 @@
+use Rattle.drift.proofs.Images.{beamed}
+use Rattle.quaternion.proofs.Drift.{stepped, axis_fair, drift, told, lamp}
+use Rattle.quaternion.proofs.drift_stands.Goals as goal
+
+pub returns : goal.returns
+returns c = record { step = stepped; fair = axis_fair; drift = drift; told = told; lamp = lamp; beam = beamed }
