@@ -184,7 +184,8 @@ impl RigFault {
     pub fn number(self) -> u8
         ensures { result ≡ number (rig_refusal self) }
     {
-        self.refusal().number()
+        let refusal = self.refusal();
+        refusal.number()
     }
 
     pub fn refusal(self) -> Refusal
