@@ -5,6 +5,7 @@ pub mod Normalize
 pub mod Step
 pub mod Fair
 pub mod Drift
+pub mod Standing
 pub mod Images
 pub mod EulerTests
 pub mod EulerAngles

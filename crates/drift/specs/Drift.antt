@@ -1,9 +1,9 @@
 -- How far what is turned in floats drifts from the exact product of its turns, and the beam with it.
 use Rattle.std.specs.Prelude.{ℕ, ◌+◌, ◌<◌, ◌≤◌, pos, Float}
 use Rattle.exact.specs.Fraction.{Frac, 1ᶠ, whole, part, ◌+ᶠ◌, ◌*ᶠ◌}
-use Rattle.exact.specs.Quat.{Quat, fractions, product}
+use Rattle.exact.specs.Quat.{Quat, fractions, product, square}
 use Rattle.exact.specs.Vector.{Vec, vec, rotated, beam}
-use Rattle.exact.specs.Distance.{Long, Near, Near3}
+use Rattle.exact.specs.Distance.{Close, Long, Near, Near3}
 use Rattle.exact.specs.Turn.{Axis, about, exact_turn}
 use Rattle.exact.specs.Facts.{one}
 use Rattle.rounding.specs.Value.{val, floats}
@@ -34,6 +34,10 @@ EulerFair = (n : EulerRot) (x y z : Float) (q : Quat Float) → IsOrderTurn n x 
 pub record Drifted (n : ℕ) (k : Quat Float) (p : Quat Frac) : Type 0 where
   pub kept : Kept k
   pub near : Near (exact k) (count n *ᶠ part 37) p
+
+-- the squared length of an exact orientation t over d layers is within d 2⁻³⁸ of 1
+abbrev pub UnitAt : ℕ → Quat Frac → Type 0
+UnitAt d t = Close (square fractions t) (count d *ᶠ part 38) 1ᶠ
 
 -- m is kept, and d layers off t
 pub record Stands (d : ℕ) (m : Quat Float) (t : Quat Frac) : Type 0 where

@@ -6,16 +6,8 @@ use Rattle.fault.specs.declared.NumberFault.{NumberFault}
 use Rattle.fault.specs.declared.NumberFault.TheVariants.{TooLarge}
 use Rattle.fault.specs.declared.RotationFault.{RotationFault}
 use Rattle.fault.specs.declared.RotationFault.TheVariants.{Number}
-use Rattle.exact.specs.Fraction.{Frac, 1ᶠ, part, ◌*ᶠ◌}
-use Rattle.exact.specs.Quat.{Quat, fractions, square}
-use Rattle.exact.specs.Distance.{Close}
 use Rattle.numeric.specs.Floats.{bits, size}
 use Rattle.numeric.specs.Tests.{number_fault, angle_fault}
-use Rattle.drift.specs.Drift.{count}
-
--- the squared length of a true orientation t at depth d is within d 2⁻³⁸ of 1
-abbrev pub UnitAt : ℕ → Quat Frac → Type 0
-UnitAt d t = Close (square fractions t) (count d *ᶠ part 38) 1ᶠ
 
 -- the depth of a mount at most
 abbrev pub deepest : ℕ

@@ -1,6 +1,6 @@
 -- The laws that the trait asks of each kind of mount.
 use Rattle.std.specs.Prelude.{◌≡◌, ℕ, ◌+◌, ◌≤◌, Bool, true, false, cond, Some, None, Option, nat_le, refl, Float}
-use Rattle.std.proofs.Common.{subst, leb-true, arith, rules, add_assoc}
+use Rattle.std.proofs.Common.{sym, subst, leb-true, arith, rules, add_assoc}
 use Rattle.exact.specs.Fraction.{Frac}
 use Rattle.exact.specs.Quat.{Quat, fractions, product}
 use Rattle.exact.specs.Turn.{X, Z, about, exact_turn}
@@ -10,13 +10,13 @@ use Rattle.exact.proofs.Turns.{exact_turn_length, about_length}
 use Rattle.rounding.specs.Value.{val}
 use Rattle.euler.specs.Orders.{letters}
 use Rattle.drift.specs.Turns as F
-use Rattle.drift.specs.Drift.{Stands}
+use Rattle.drift.specs.Drift.{UnitAt, Stands}
+use Rattle.drift.proofs.Standing.{turn_unit, turn_stands, aim_stands}
 use Rattle.drift.proofs.Fair.{euler_fair}
 use Rattle.drift.proofs.EulerTurns.{order_turn}
 use Rattle.drift.proofs.About.{turn_law}
-use Rattle.mount.specs.Facts.{UnitAt, deepest}
+use Rattle.mount.specs.Facts.{deepest}
 use Rattle.mount.specs.Layers.{over, deeper, Over, set_turn, set_truth, set_floats, aim_truth, aim_floats}
-use Rattle.mount.specs.Standing.{turn_unit, turn_stands, aim_stands, layer_unit, layer_stands}
 use Rattle.mount.specs.Passing.{set_angles, aim_angles}
 use Rattle.mount.specs.declared.settings.Setting.{Setting}
 use Rattle.mount.specs.declared.settings.Aim.{Aim}
@@ -38,6 +38,25 @@ layer_shallow more d (Some s) h = go (nat_le (d + more) deepest) refl
     go : (b : Bool) → nat_le (d + more) deepest ≡ b → cond b (d + more) d ≤ deepest
     go true e = leb-true _ _ e
     go false e = h
+
+-- by what a layer does where it is set
+module _ {S : Type 0} (more d : ℕ) (f : S → Quat Frac → Quat Frac) (t : Quat Frac) where
+  pub layer_unit : (o : Option S) → UnitAt d t → ((s : S) → d + more ≤ deepest → UnitAt (d + more) (f s t)) → UnitAt (deeper more o d) (over more d f o t)
+  layer_unit None h k = h
+  layer_unit (Some s) h k = go (nat_le (d + more) deepest) refl
+    where
+      go : (b : Bool) → nat_le (d + more) deepest ≡ b → UnitAt (cond b (d + more) d) (cond b (f s t) t)
+      go true e = k s (leb-true _ _ e)
+      go false e = h
+
+  pub layer_stands : (F : S → Quat Float → Quat Float) (o : Option S) (P : Quat Float → Type 0) (q : Quat Float) → Over more d F o P q → ((m : Quat Float) → P m → Stands d m t)
+      → ((s : S) (m : Quat Float) → d + more ≤ deepest → Stands d m t → Stands (d + more) (F s m) (f s t)) → Stands (deeper more o d) q (over more d f o t)
+  layer_stands F None P q h below k = below q h
+  layer_stands F (Some s) P q h below k = go (nat_le (d + more) deepest) refl h.1.1
+    where
+      go : (b : Bool) → nat_le (d + more) deepest ≡ b → q ≡ cond b (F s h.0) h.0 → Stands (cond b (d + more) d) q (cond b (f s t) t)
+      go true e is = subst (λ q. Stands (d + more) q (f s t)) (sym is) (k s h.0 (leb-true _ _ e) (below h.0 h.1.0))
+      go false e is = subst (λ q. Stands d q t) (sym is) (below h.0 h.1.0)
 
 -- ---- a bracket
 

@@ -3,10 +3,10 @@ ghost use Rattle.std.specs.Prelude.{◌≡◌, ℕ, ◌≤◌, Float};
 ghost use Rattle.exact.specs.Fraction.{Frac};
 ghost use Rattle.exact.specs.Quat.{Quat};
 ghost use Rattle.exact.specs.Facts.{one};
-ghost use Rattle.drift.specs.Drift.{Stands, hung};
+ghost use Rattle.drift.specs.Drift.{UnitAt, Stands, hung};
 ghost use Rattle.quaternion.specs.Quaternions.{parts};
-ghost use Rattle.mount.specs.Facts.{UnitAt, deepest};
-ghost use Rattle.mount.specs.Standing.{floor_stands};
+ghost use Rattle.mount.specs.Facts.{deepest};
+ghost use Rattle.drift.proofs.Standing.{floor_stands};
 ghost use Rattle.mount.specs.Laws.{floor_shallow, floor_unit};
 
 use quaternion::DQuat;

@@ -1,4 +1,4 @@
--- Layers keep what a mount shows: its depth, the length of its true orientation, and how near its answer lies.
+-- One turn more, and two, over what stands off an exact orientation: the length of the exact product, and how near the floats lie.
 use Rattle.std.specs.Prelude.{◌≡◌, ℕ, Bool, true, false, cond, pos, Some, None, Option, nat_le, refl, Float}
 use Rattle.std.proofs.Common.{sym, subst, leb-true}
 use Prim.Native.Nat as N
@@ -15,12 +15,10 @@ use Rattle.exact.proofs.Distance.{classes, near, long, back, close, close_back}
 use Rattle.exact.proofs.Turns.{about_length}
 use Rattle.rounding.specs.Value.{val, floats}
 use Rattle.drift.specs.Laws.{IsTurn, turned}
-use Rattle.drift.specs.Drift.{Fair, Stands, hung}
+use Rattle.drift.specs.Drift.{UnitAt, Fair, Stands, hung}
 use Rattle.drift.proofs.Floats.{values, kept_sound, kept_upto, product_near, product_sound, product_length}
 use Rattle.drift.proofs.Step.{turned_kept, turned_near}
 use Rattle.drift.proofs.Drift.{hung_stands}
-use Rattle.mount.specs.Facts.{UnitAt, deepest}
-use Rattle.mount.specs.Layers.{over, deeper, Over}
 
 -- ---- the floor
 
@@ -76,23 +74,3 @@ module _ (d : ℕ) (m p q : Quat Float) (t : Quat Frac) (pan tilt : Float) (l : 
       (con (part 48) ⊕ (con (1ᶠ +ᶠ part 40) ⊗ con (part 43) ⊕ d ⊗ con (part 36) ⊗ (1ₑ ⊕ con (part 73)))) ⊗ (1ₑ ⊕ con (part 73)) ⊕ con (part 43) ⊗ con (1ᶠ +ᶠ part 38) ⊕ con (part 39 +ᶠ part 41 +ᶠ part 45) ≼ (d ⊕ con (whole (pos 2))) ⊗ con (part 36)
       by h ⊠ number (part 36 *ᶠ ((1ᶠ +ᶠ part 73) *ᶠ (1ᶠ +ᶠ part 73) -ᶠ 1ᶠ))) tt (num_≤ l))) in
       record { kept = turned_kept s hq.kept; near = back _ _ _ r }
-
--- ---- any layer, by what it does where it is set
-
-module _ {S : Type 0} (more d : ℕ) (f : S → Quat Frac → Quat Frac) (t : Quat Frac) where
-  pub layer_unit : (o : Option S) → UnitAt d t → ((s : S) → N.◌≤◌ (N.◌+◌ d more) deepest → UnitAt (N.◌+◌ d more) (f s t)) → UnitAt (deeper more o d) (over more d f o t)
-  layer_unit None h k = h
-  layer_unit (Some s) h k = go (nat_le (N.◌+◌ d more) deepest) refl
-    where
-      go : (b : Bool) → nat_le (N.◌+◌ d more) deepest ≡ b → UnitAt (cond b (N.◌+◌ d more) d) (cond b (f s t) t)
-      go true e = k s (leb-true _ _ e)
-      go false e = h
-
-  pub layer_stands : (F : S → Quat Float → Quat Float) (o : Option S) (P : Quat Float → Type 0) (q : Quat Float) → Over more d F o P q → ((m : Quat Float) → P m → Stands d m t)
-      → ((s : S) (m : Quat Float) → N.◌≤◌ (N.◌+◌ d more) deepest → Stands d m t → Stands (N.◌+◌ d more) (F s m) (f s t)) → Stands (deeper more o d) q (over more d f o t)
-  layer_stands F None P q h below k = below q h
-  layer_stands F (Some s) P q h below k = go (nat_le (N.◌+◌ d more) deepest) refl h.1.1
-    where
-      go : (b : Bool) → nat_le (N.◌+◌ d more) deepest ≡ b → q ≡ cond b (F s h.0) h.0 → Stands (cond b (N.◌+◌ d more) d) q (cond b (f s t) t)
-      go true e is = subst (λ q. Stands (N.◌+◌ d more) q (f s t)) (sym is) (k s h.0 (leb-true _ _ e) (below h.0 h.1.0))
-      go false e is = subst (λ q. Stands d q t) (sym is) (below h.0 h.1.0)
