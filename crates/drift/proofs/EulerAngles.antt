@@ -24,7 +24,7 @@ use Rattle.numeric.specs.Sine.{sin_float, cos_float}
 use Rattle.numeric.specs.Laws.{Angle}
 use Rattle.numeric.proofs.Sines.{sine_law, cosine_law}
 
--- the floats t .0 and t.1 within e of the sine and the cosine of w
+-- the floats t.0 and t.1 within e of the sine and the cosine of w
 pub record Sines (t : Float × Float) (w : Pair) (e : ℚ) : Type 0 where
   pub s : Rounds t.0 w.s e
   pub c : Rounds t.1 w.c e
