@@ -4,7 +4,7 @@ use lib.Ieee.{Float, fits, of_bits}
 use lib.Ieee as I
 use Rattle.exact.specs.Fraction.{Frac, 0ᶠ, 1ᶠ, ◌over◌, whole, part, ◌*ᶠ◌}
 use Rattle.exact.specs.Quat.{Ops, Quat, product, square}
-use Rattle.exact.specs.Turn.{along, about}
+use Rattle.exact.specs.Turn.{along, about, exact_turn}
 use Rattle.exact.proofs.Ring.{⊖◌}
 use Rattle.exact.proofs.Rational.{ℚ, cls, neg, Ex, Vars, ∅, ◌▸◌}
 use Rattle.exact.proofs.Within.{0#, 1#, 0ₑ, 1ₑ, 2⁻, closed, computes, ≤_trans, ≤_of, ≤_+, ◌≈⟨◌⟩◌, apart, near_≤, near_trans}
@@ -27,6 +27,7 @@ use Rattle.drift.specs.Turns.{Angle, angle, place, four, assembled, parity, by_o
 use Rattle.drift.specs.EulerLaws.{OrderTurnLaw}
 use Rattle.drift.proofs.Floats.{values, square_of, settles, beside, unit_within}
 use Rattle.drift.proofs.About.{along_apart}
+use Rattle.drift.proofs.Fair.{turn_long}
 
 -- ---- the algebra
 
@@ -163,4 +164,5 @@ order_turn n x y z hx hy hz =
     record {
       kept = unit_within (record { x = r.x.rounds.is; y = r.y.rounds.is; z = r.z.rounds.is; w = r.w.rounds.is }) (near_unit near (exact_turn_length l (val x) (val y) (val z)));
       near = back _ _ _ (~_≤ near (closed tt));
+      long = turn_long (exact_turn l (val x) (val y) (val z)) (near_≤ (exact_turn_length l (val x) (val y) (val z)) (closed tt));
     }

@@ -1,6 +1,6 @@
 -- One turn more, and two, over what stands off an exact orientation: the length of the exact product, and how near the floats lie.
-use Rattle.std.specs.Prelude.{◌≡◌, ℕ, Bool, true, false, cond, pos, Some, None, Option, nat_le, refl, Float}
-use Rattle.std.proofs.Common.{sym, subst, leb-true}
+use Rattle.std.specs.Prelude.{◌≡◌, ℕ, pos, Float}
+use Rattle.std.proofs.Common.{sym, subst}
 use Prim.Native.Nat as N
 use Rattle.exact.specs.Fraction.{Frac, 1ᶠ, whole, part, ◌+ᶠ◌, ◌-ᶠ◌, ◌*ᶠ◌}
 use Rattle.exact.specs.Quat.{Quat, fractions, product, square}
@@ -14,8 +14,8 @@ use Rattle.exact.proofs.Quats.{ops, ◌upto◌, ◌~⟨◌⟩◌, upto_one, ~_tr
 use Rattle.exact.proofs.Distance.{classes, near, long, back, close, close_back}
 use Rattle.exact.proofs.Turns.{about_length}
 use Rattle.rounding.specs.Value.{val, floats}
-use Rattle.drift.specs.Laws.{IsTurn, turned}
-use Rattle.drift.specs.Drift.{UnitAt, Fair, Stands, hung}
+use Rattle.drift.specs.Laws.{IsTurn, Fair, turned}
+use Rattle.drift.specs.Drift.{UnitAt, Stands, hung}
 use Rattle.drift.proofs.Floats.{values, kept_sound, kept_upto, product_near, product_sound, product_length}
 use Rattle.drift.proofs.Step.{turned_kept, turned_near}
 use Rattle.drift.proofs.Drift.{hung_stands}

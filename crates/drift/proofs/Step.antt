@@ -4,9 +4,9 @@ use lib.Ieee.{Float}
 use Rattle.exact.specs.Fraction.{Frac, 1ᶠ, whole, part, ◌+ᶠ◌, ◌-ᶠ◌, ◌*ᶠ◌}
 use Rattle.exact.specs.Quat.{Quat, square, product}
 use Rattle.exact.proofs.Ring.{con, ◌⊕◌, ◌⊗◌}
-use Rattle.exact.proofs.Rational.{ℚ, cls, ◌+◌, ◌*◌, ∅, ◌▸◌}
+use Rattle.exact.proofs.Rational.{ℚ, cls, ◌+◌, ◌*◌, ◌-◌, ∅, ◌▸◌}
 use Rattle.exact.proofs.Order.{◌≤◌, number, ◌≼◌, ◌by◌, ◌⇒◌, le}
-use Rattle.exact.proofs.Within.{1#, 1ₑ, num, 2⁻, closed, computes, ≤_trans, ◌≈⟨◌⟩◌, near_≤}
+use Rattle.exact.proofs.Within.{0#, 1#, 1ₑ, num, 2⁻, closed, computes, ≤_trans, ◌≈⟨◌⟩◌, near_≤}
 use Rattle.exact.proofs.Quats.{ops, ◌upto◌, ◌~⟨◌⟩◌, ~_trans, ~_left, ~_right, ~_≤}
 use Rattle.exact.proofs.Distance.{near, long, back}
 use Rattle.rounding.specs.Value.{floats}
@@ -55,11 +55,16 @@ module _ {k t : Quat Float} (h : Sound k) (g : Kept t) where
   unfolding computes
   turned_unit = unit_within (normal_are made.0 lo hi) (normal_unit made.0 lo hi)
 
-  -- k is e from Π and t is f from τ, which is at most a long
+  -- k is at most c long, and e from Π; t is f from τ, which is at most a long; the product's length is d from 1
+  pub turned_by : {c d : ℚ} → K upto c → 0# ≤ d → d ≤ 1# → (1# - d) * (1# - d) ≤ square ops (values m) → square ops (values m) ≤ (1# + d) * (1# + d)
+      → {Π τ : Quat ℚ} {e f a : ℚ} → K ~⟨ e ⟩ Π → T ~⟨ f ⟩ τ → τ upto a → values (turned k t) ~⟨ d + 2⁻ 48 + (2⁻ 48 + (c * f + e * a)) ⟩ product ops Π τ
+  turned_by u d₀ d₁ l m d e b = ~_trans (normal_moved made.0 lo hi d₀ d₁ l m) (~_trans made.1 (~_trans (~_left e u) (~_right d b)))
+
+  -- with what is sound
   pub turned_near : {Π τ : Quat ℚ} {e f a : ℚ} → K ~⟨ e ⟩ Π → T ~⟨ f ⟩ τ → τ upto a → values (turned k t) ~⟨ e * a + f * cls (1ᶠ +ᶠ part 38) + cls (part 39 +ᶠ part 41 +ᶠ part 45) ⟩ product ops Π τ
   unfolding computes
   turned_near {Π} {τ} {e} {f} {a} d l b =
-      ~_≤ (~_trans (normal_moved made.0 lo hi {δ = cls δ} (closed tt) (closed tt) least most) (~_trans made.1 (~_trans (~_left l (sound_upto h)) (~_right d b))))
+      ~_≤ (turned_by {d = cls δ} (sound_upto h) (closed tt) (closed tt) least most d l b)
       (le (e ▸ f ▸ a ▸ ∅) (λ e f a. con δ ⊕ con (part 48) ⊕ (con (part 48) ⊕ (con (1ᶠ +ᶠ part 38) ⊗ f ⊕ e ⊗ a)) ≼ e ⊗ a ⊕ f ⊗ con (1ᶠ +ᶠ part 38) ⊕ con (part 39 +ᶠ part 41 +ᶠ part 45) by number (whole (pos 0))) tt)
 
   pub turned_kept : Kept (turned k t)

@@ -1,34 +1,22 @@
 -- How far what is turned in floats drifts from the exact product of its turns, and the beam with it.
 use Rattle.std.specs.Prelude.{ℕ, ◌+◌, ◌<◌, ◌≤◌, pos, Float}
-use Rattle.exact.specs.Fraction.{Frac, 1ᶠ, whole, part, ◌+ᶠ◌, ◌*ᶠ◌}
+use Rattle.exact.specs.Fraction.{Frac, 1ᶠ, whole, part, ◌*ᶠ◌}
 use Rattle.exact.specs.Quat.{Quat, fractions, product, square}
 use Rattle.exact.specs.Vector.{Vec, vec, rotated, beam}
-use Rattle.exact.specs.Distance.{Close, Long, Near, Near3}
-use Rattle.exact.specs.Turn.{Axis, about, exact_turn}
+use Rattle.exact.specs.Distance.{Close, Near, Near3}
+use Rattle.exact.specs.Turn.{Axis, about}
 use Rattle.exact.specs.Facts.{one}
 use Rattle.rounding.specs.Value.{val, floats}
 use Rattle.numeric.specs.Floats as Is
 use Rattle.numeric.specs.Floats.{zero, two, minus_one}
-use Rattle.euler.specs.Orders.{letters}
-use Rattle.euler.specs.declared.EulerRot.{EulerRot}
-use Rattle.drift.specs.Laws.{exact, exact3, Kept, IsTurn, turned}
-use Rattle.drift.specs.EulerLaws.{IsOrderTurn}
+use Rattle.drift.specs.Laws.{exact, exact3, Kept, IsTurn, Fair, turned}
 
 abbrev pub count : ℕ → Frac
 count n = whole (pos n)
 
--- t in floats stands for the exact turn τ
-pub record Fair (t : Quat Float) (τ : Quat Frac) : Type 0 where
-  pub kept : Kept t
-  pub near : Near (exact t) (part 38) τ
-  pub long : Long τ (1ᶠ +ᶠ part 40)
-
--- a turn about an axis and one of an order are fair, as they are made
+-- a turn about an axis is fair, as it is made; one of an order is too (`OrderTurnLaw`)
 abbrev pub AxisFair : Type 0
 AxisFair = (axis : Axis) (v : Float) (q : Quat Float) → IsTurn axis v q → Fair q (about axis (val v))
-
-abbrev pub EulerFair : Type 0
-EulerFair = (n : EulerRot) (x y z : Float) (q : Quat Float) → IsOrderTurn n x y z q → Fair q (exact_turn (letters n) (val x) (val y) (val z))
 
 -- k is kept, and n turns off p
 pub record Drifted (n : ℕ) (k : Quat Float) (p : Quat Frac) : Type 0 where

@@ -1,9 +1,7 @@
 -- What an Euler order and three angles promise, as a quaternion and as columns of a matrix.
 use Rattle.std.specs.Prelude.{Float}
 use Rattle.exact.specs.Fraction.{Frac, 0ᶠ, 1ᶠ, part}
-use Rattle.exact.specs.Quat.{Quat}
 use Rattle.exact.specs.Vector.{Vec, vec, exact_image}
-use Rattle.exact.specs.Distance.{Near}
 use Rattle.exact.specs.Turn.{exact_turn}
 use Rattle.rounding.specs.Value.{val}
 use Rattle.rounding.specs.Theorems.{Rounded}
@@ -14,16 +12,12 @@ use Rattle.euler.specs.declared.Axis.TheVariants.{X, Y, Z}
 use Rattle.euler.specs.declared.EulerRot.{EulerRot}
 use Rattle.drift.specs.Turns.{by_order}
 use Rattle.drift.specs.Columns.{column}
-use Rattle.drift.specs.Laws.{exact, Kept}
+use Rattle.drift.specs.Laws.{Fair}
 
--- q is the turn of the name n by the angles x, y and z. Each of the six sines and cosines is 2⁻⁴⁴ off, so each of the three turns √2 · 2⁻⁴⁴,
+-- the turn of the name n by the angles x, y and z is fair. Each of the six sines and cosines is 2⁻⁴⁴ off, so each of the three turns √2 · 2⁻⁴⁴,
 -- and with the roundings all is below 5 · 2⁻⁴⁴, so that the squared length is 10 · 2⁻⁴⁴ off at most; 2⁻³⁸ leaves room
-pub record IsOrderTurn (n : EulerRot) (x y z : Float) (q : Quat Float) : Type 0 where
-  pub kept : Kept q
-  pub near : Near (exact q) (part 38) (exact_turn (letters n) (val x) (val y) (val z))
-
 abbrev pub OrderTurnLaw : Type 0
-OrderTurnLaw = (n : EulerRot) (x y z : Float) → Angle x → Angle y → Angle z → IsOrderTurn n x y z (by_order (order n) x y z)
+OrderTurnLaw = (n : EulerRot) (x y z : Float) → Angle x → Angle y → Angle z → Fair (by_order (order n) x y z) (exact_turn (letters n) (val x) (val y) (val z))
 
 -- each number of v is finite and within 2⁻³⁸ of that of w. A sine or cosine is 2⁻⁴⁴ off; two products and a sum for each of three turns make of it 24 · 2⁻⁴⁴ at most
 pub record IsColumn (v : Vec Float) (w : Vec Frac) : Type 0 where

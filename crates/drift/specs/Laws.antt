@@ -95,6 +95,12 @@ pub record IsTurn (axis : Axis) (v : Float) (q : Quat Float) : Type 0 where
   pub kept : Kept q
   pub near : Near (exact q) (part 43) (about axis (val v))
 
+-- t in floats stands for the exact turn τ
+pub record Fair (t : Quat Float) (τ : Quat Frac) : Type 0 where
+  pub kept : Kept t
+  pub near : Near (exact t) (part 38) τ
+  pub long : Long τ (1ᶠ +ᶠ part 40)
+
 -- ---- vectors
 
 abbrev pub exact3 : Vec Float → Vec Frac

@@ -3,7 +3,7 @@
 
 ghost use Rattle.drift.specs.Laws.{ProductLaw, NormalLaw, TurnedLaw, TurnLaw, ImageLaw};
 ghost use Rattle.drift.specs.EulerLaws.{OrderTurnLaw, EulerColumnLaw};
-ghost use Rattle.drift.specs.Drift.{AxisFair, EulerFair, Hung, TurnDrifts, Told, Beam};
+ghost use Rattle.drift.specs.Drift.{AxisFair, Hung, TurnDrifts, Told, Beam};
 
 // Products, normalising, turns about an axis, images.
 pub fn laws_stand() -> u8
@@ -27,7 +27,6 @@ pub fn orders_stand() -> u8
 // What is turned n times, over a mount of depth d, and its beam.
 pub fn drift_stands() -> u8
     ensures axis { AxisFair }
-    ensures euler { EulerFair }
     ensures hung { Hung }
     ensures turn { TurnDrifts }
     ensures told { Told }

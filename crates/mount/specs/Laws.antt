@@ -12,7 +12,6 @@ use Rattle.euler.specs.Orders.{letters}
 use Rattle.drift.specs.Turns as F
 use Rattle.drift.specs.Drift.{UnitAt, Stands}
 use Rattle.drift.proofs.Standing.{turn_unit, turn_stands, aim_stands}
-use Rattle.drift.proofs.Fair.{euler_fair}
 use Rattle.drift.proofs.EulerTurns.{order_turn}
 use Rattle.drift.proofs.About.{turn_law}
 use Rattle.mount.specs.Facts.{deepest}
@@ -72,7 +71,7 @@ bracket_stands d t o P q h below =
     (λ s m l k.
     let angles = set_angles s.a s.b s.c s.fits_a s.fits_b s.fits_c s.fine in
     turn_stands d m (set_turn s) t (exact_turn (letters s.name) (val s.a) (val s.b) (val s.c)) (omega arith) k
-    (euler_fair s.name s.a s.b s.c (set_turn s) (order_turn s.name s.a s.b s.c angles.0 angles.1 angles.2)))
+    (order_turn s.name s.a s.b s.c angles.0 angles.1 angles.2))
 
 -- ---- a yoke
 

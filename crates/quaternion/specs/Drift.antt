@@ -1,15 +1,13 @@
 -- How far a run of turns in floats drifts from the exact product of the turns, and the beam with it.
-use Rattle.std.specs.Prelude.{ℕ, ◌+◌, ◌≤◌, List, [], ◌∷◌, length, pos, Float}
-use Rattle.exact.specs.Fraction.{Frac, 1ᶠ, whole, part, ◌+ᶠ◌, ◌*ᶠ◌, ◌≤ᶠ◌}
+use Rattle.std.specs.Prelude.{ℕ, ◌+◌, ◌≤◌, List, [], ◌∷◌, length, Float}
+use Rattle.exact.specs.Fraction.{Frac, 1ᶠ, part, ◌+ᶠ◌, ◌*ᶠ◌, ◌≤ᶠ◌}
 use Rattle.exact.specs.Quat.{Quat, fractions, product}
-use Rattle.exact.specs.Vector.{Vec, vec, rotated, beam}
-use Rattle.exact.specs.Distance.{Long, Near, Near3}
+use Rattle.exact.specs.Distance.{Long, Near}
 use Rattle.exact.specs.Turn.{Axis, about, total}
 use Rattle.exact.specs.Facts.{one}
-use Rattle.rounding.specs.Value.{val, floats}
-use Rattle.vectors.specs.Vectors.{normal}
+use Rattle.rounding.specs.Value.{val}
 use Rattle.drift.specs.Laws.{exact, Kept, IsTurn, turned}
-use Rattle.drift.specs.Drift.{count, Beam}
+use Rattle.drift.specs.Drift.{count}
 use Rattle.quaternion.specs.Quaternions.{parts}
 use Rattle.quaternion.specs.Axes.{identity}
 

@@ -1,8 +1,5 @@
 use Rattle.std.proofs.Common.{IfOk, sym, subst, rules}
-use lib.Ieee.{Float}
-use Rattle.numeric.specs.Laws.{Angle}
 use Rattle.euler.specs.declared.Axis.TheVariants.{X, Y, Z}
-use Rattle.euler.specs.declared.EulerRot.{EulerRot}
 use Rattle.drift.proofs.EulerTests.{angles_pass}
 use Rattle.drift.proofs.EulerColumns.{euler_column}
 use Rattle.matrix.specs.Angles.{by_order, from_euler}
