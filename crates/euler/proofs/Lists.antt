@@ -1,20 +1,11 @@
 -- A list of triples, one more at a time.
-use Rattle.std.proofs.Common.{◌≡◌, ℕ, zero, suc, ◌+◌, ◌<◌, ◌≤◌, Bool, true, false, leb, ◌≢◌, List, [], ◌∷◌, length, get_or, take, drop, set, Some, None, Ok, Err, Option, Result, sym, refl, ap, ◌∙◌, subst, le_of_suc-le-suc, not-suc-le-zero, arith, get_or-set_other, get_or-set_same, below_more, le-leb}
-use Rattle.fault.specs.Answers.{answer, unless, ◌⨾◌}
+use Rattle.std.proofs.Common.{◌≡◌, ℕ, zero, suc, ◌+◌, ◌<◌, ◌≤◌, Bool, true, false, leb, ◌≢◌, List, [], ◌∷◌, length, get_or, take, drop, set, Some, None, Option, Result, sym, refl, ap, ◌∙◌, subst, le_of_suc-le-suc, not-suc-le-zero, arith, get_or-set_other, get_or-set_same, below_more, le-leb}
+use Rattle.std.proofs.lemmas.List.{drop-set-lt, get_or_default}
+use Rattle.fault.specs.Answers.{unless, ◌⨾◌}
 use Rattle.fault.specs.declared.RotationFault.{RotationFault}
 use Rattle.fault.specs.declared.RotationFault.TheVariants.{TooShort}
 use Rattle.euler.specs.Lists.{Triple, first_fault, Converted, ListedBy, Listed}
 use lib.Ieee.{Float}
-
--- ---- an answer's parts
-
-pub answered : {R : Type 0} (o : Option RotationFault) (v q : R) → Ok q ≡ answer o v → (o ≡ None) × (q ≡ v)
-answered None v q h = (refl, cc)
-answered (Some f) v q h = let z : ◌≡◌ {A = ℕ} 0 1 = cc in absurd (omega arith)
-
-pub refused : {R : Type 0} (o : Option RotationFault) (v : R) (e : RotationFault) → Err e ≡ answer o v → o ≡ Some e
-refused None v e h = let z : ◌≡◌ {A = ℕ} 0 1 = cc in absurd (omega arith)
-refused (Some f) v e h = cc
 
 both_none : (o u : Option RotationFault) → o ⨾ u ≡ None → (o ≡ None) × (u ≡ None)
 both_none None u h = (refl, h)
@@ -49,29 +40,17 @@ module _ (f : Float → Float → Float → Option RotationFault) where
 
 -- ---- places
 
--- inside the list the default does not matter
-get_d_any : {A : Type 0} (l : List A) (i : ℕ) (a b : A) → i < length l → get_or l i a ≡ get_or l i b
-get_d_any [] i a b lt = absurd (not-suc-le-zero lt)
-get_d_any (x ∷ l) zero a b lt = refl
-get_d_any (x ∷ l) (suc i) a b lt = get_d_any l i a b (le_of_suc-le-suc lt)
-
-drop_set : {A : Type 0} (l : List A) (i n : ℕ) (a : A) → i < n → drop n (set l i a) ≡ drop n l
-drop_set [] i n a lt = refl
-drop_set (x ∷ l) i zero a lt = absurd (not-suc-le-zero lt)
-drop_set (x ∷ l) zero (suc n) a lt = refl
-drop_set (x ∷ l) (suc i) (suc n) a lt = drop_set l i n a (le_of_suc-le-suc lt)
-
 pub converted_more : {R : Type 0} (rot : Float → Float → Float → R) (j : ℕ) (ts : List Triple) (qs : List R) (q : R) (t0 : Triple)
     → j < length ts → j < length qs → Converted rot j ts qs → q ≡ rot (get_or ts j t0).0 (get_or ts j t0).1 (get_or ts j t0).2
     → Converted rot (j + 1) ts (set qs j q)
 converted_more rot j ts qs q t0 lt lu h e k t d =
     below_more (λ k. get_or (set qs j q) k d ≡ rot (get_or ts k t).0 (get_or ts k t).1 (get_or ts k t).2) j
     (λ k lk. let ne : k ≢ j = omega arith in rw get_or-set_other (h k t d lk))
-    (get_or-set_same qs j q d lu ∙ e ∙ ap (λ (u : Triple). rot u.0 u.1 u.2) (get_d_any ts j t0 t lt))
+    (get_or-set_same qs j q d lu ∙ e ∙ ap (λ (u : Triple). rot u.0 u.1 u.2) (get_or_default ts j t0 t lt))
     k
 
 pub rest_kept : {R : Type 0} (qs os : List R) (j n : ℕ) (q : R) → j < n → drop n qs ≡ drop n os → drop n (set qs j q) ≡ drop n os
-rest_kept qs os j n q lt e = drop_set qs j n q lt ∙ e
+rest_kept qs os j n q lt e = drop-set-lt n qs j q lt ∙ e
 
 -- the output is long enough, and the first fault is o
 pub listed : {R : Type 0} (f : Float → Float → Float → Option RotationFault) (rot : Float → Float → Float → R) (ts : List Triple) (os : List R) (r : Result ℕ RotationFault) (qs : List R) (o : Option RotationFault)

@@ -1,5 +1,6 @@
 -- The letters of the 24 names, the four facts that make an order of them, and the axes that it answers.
-use Rattle.std.specs.Prelude.{◌≡◌, ℕ, Bool, true, false, cond, not, ◌==◌}
+use Rattle.std.specs.Prelude.{◌≡◌, ℕ, Bool, true, false, cond, not, ◌==◌, Float}
+use Rattle.std.specs.Float.Ieee.{neg}
 use Rattle.exact.specs.Turn as exact
 use Rattle.exact.specs.Turn.{Letters}
 use Rattle.euler.specs.declared.Axis.{Axis}
@@ -113,6 +114,16 @@ other o = cond o.parity_even (prev o.initial_axis) (next o.initial_axis)
 
 abbrev pub angle_order : Order → ℕ × ℕ × ℕ
 angle_order o = (index o.initial_axis, index (second o), index (other o))
+
+-- ---- the angles of an order
+
+-- at the opposite where the parity is even
+abbrev pub signed : Bool → Float → Float
+signed even t = cond even (neg t) t
+
+-- with Ex read backwards
+abbrev pub in_order : Bool → Float × Float × Float → Float × Float × Float
+in_order static t = cond static t (t.2, t.1, t.0)
 
 -- ---- laws
 

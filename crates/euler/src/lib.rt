@@ -1,10 +1,11 @@
 // Euler orders: which axes, in which sequence, about fixed or moving axes. After Shoemake, "Euler angle conversion", Graphics Gems IV, 1994.
 #![tactic(auto)]
 
-ghost use Rattle.std.specs.Prelude.{◌≡◌, Option};
+ghost use Rattle.std.specs.Prelude.{◌≡◌, Option, Some};
+ghost use Rattle.std.specs.Fmt.{padded};
 ghost use Rattle.fault.specs.Answers.{answer};
 ghost use Rattle.fault.specs.declared.RotationFault.{RotationFault as Fault};
-ghost use Rattle.euler.specs.Orders.{order, angle_order, made, LettersLaw, Examples};
+ghost use Rattle.euler.specs.Orders.{order, angle_order, made, signed, in_order, LettersLaw, Examples};
 ghost use Rattle.euler.specs.Names.{name, named, NamesLaw};
 ghost use Rattle.euler.specs.declared.EulerRot.{EulerRot as Rot};
 ghost use Rattle.euler.specs.declared.EulerRot.TheVariants.{YXZ};
@@ -13,6 +14,8 @@ mod list;
 
 use fault::RotationFault;
 pub use list::from_euler_list;
+use std::fmt;
+use std::str::FromStr;
 
 // Euler rotation sequences. The turns of a plain name are about the axes of the body, which each turn moves (intrinsic);
 // those of a name ending in Ex are about the axes that stay (extrinsic).
@@ -44,11 +47,13 @@ pub enum EulerRot {
     XZXEx,
 }
 
-impl EulerRot {
-    // The order of this name, spelled exactly so.
-    pub fn from_name(name: &str) -> Result<EulerRot, RotationFault>
-        ensures { result ≡ named name.now }
-    {
+// The order of a name, spelled exactly so.
+impl FromStr for EulerRot {
+    type Err = RotationFault;
+
+    ghost from_str_gives = { λ text r. r ≡ named text };
+
+    fn from_str(name: &str) -> Result<EulerRot, RotationFault> {
         match name {
             "ZYX" => Ok(EulerRot::ZYX),
             "ZXY" => Ok(EulerRot::ZXY),
@@ -77,14 +82,9 @@ impl EulerRot {
             _ => Err(RotationFault::UnknownOrder(0)),
         }
     }
+}
 
-    // The original's default.
-    pub fn default_order() -> EulerRot
-        ensures { result ≡ YXZ }
-    {
-        EulerRot::YXZ // yaw, pitch, roll
-    }
-
+impl EulerRot {
     pub fn name(self) -> &'static str
         ensures { result.now ≡ name self }
     {
@@ -114,6 +114,25 @@ impl EulerRot {
             EulerRot::XYXEx => "XYXEx",
             EulerRot::XZXEx => "XZXEx",
         }
+    }
+}
+
+impl fmt::Display for EulerRot {
+    ghost output = { λ euler. Some (name euler) };
+
+    ghost styled_output = { λ euler spec. Some (padded spec (name euler)) };
+
+    fn fmt<W: fmt::Write>(&self, f: &mut fmt::Formatter<W>) -> fmt::Result {
+        f.pad(self.name())
+    }
+}
+
+// The original's default.
+impl Default for EulerRot {
+    ghost is_default = { λ euler. euler ≡ YXZ };
+
+    fn default() -> EulerRot {
+        EulerRot::YXZ // yaw, pitch, roll
     }
 }
 
@@ -190,15 +209,49 @@ impl Order {
     {
         Order {
             initial_axis,
-            parity_even: parity as u32 == Parity::Even as u32,
-            initial_repeated: initial_repeated as u32 == Repeated::Yes as u32,
-            frame_static: frame as u32 == Frame::Static as u32,
+            parity_even: parity == Parity::Even,
+            initial_repeated: initial_repeated == Repeated::Yes,
+            frame_static: frame == Frame::Static,
         }
     }
 
-    pub fn from_euler(euler: EulerRot) -> Order
-        ensures { result ≡ order euler }
+    // The three axes i, j and k.
+    pub fn angle_order(self) -> (usize, usize, usize)
+        ensures { result ≡ angle_order self }
     {
+        let i = self.initial_axis as usize;
+        let next = (i + 1) % 3;
+        let prev = if i > 0 { i - 1 } else { 2 };
+        if self.parity_even {
+            (i, next, prev)
+        } else {
+            (i, prev, next)
+        }
+    }
+
+    // An angle of a turn, taken at the opposite where the parity is even.
+    pub fn signed(self, angle: f64) -> f64
+        ensures { result ≡ signed self.parity_even angle }
+    {
+        if self.parity_even { -angle } else { angle }
+    }
+
+    // Three angles as they are written, or with Ex read backwards.
+    pub fn in_order(self, angles: (f64, f64, f64)) -> (f64, f64, f64)
+        ensures { result ≡ in_order self.frame_static angles }
+    {
+        if self.frame_static {
+            angles
+        } else {
+            (angles.2, angles.1, angles.0)
+        }
+    }
+}
+
+impl From<EulerRot> for Order {
+    ghost from_gives = { λ euler o. o ≡ order euler };
+
+    fn from(euler: EulerRot) -> Order {
         match euler {
             EulerRot::XYZ => Order::new(Axis::X, Parity::Even, Repeated::No, Frame::Static),
             EulerRot::XYX => Order::new(Axis::X, Parity::Even, Repeated::Yes, Frame::Static),
@@ -224,20 +277,6 @@ impl Order {
             EulerRot::ZXZEx => Order::new(Axis::Z, Parity::Even, Repeated::Yes, Frame::Relative),
             EulerRot::XYZEx => Order::new(Axis::Z, Parity::Odd, Repeated::No, Frame::Relative),
             EulerRot::ZYZEx => Order::new(Axis::Z, Parity::Odd, Repeated::Yes, Frame::Relative),
-        }
-    }
-
-    // The three axes i, j and k.
-    pub fn angle_order(self) -> (usize, usize, usize)
-        ensures { result ≡ angle_order self }
-    {
-        let i = self.initial_axis as usize;
-        let next = (i + 1) % 3;
-        let prev = if i > 0 { i - 1 } else { 2 };
-        if self.parity_even {
-            (i, next, prev)
-        } else {
-            (i, prev, next)
         }
     }
 }

@@ -17,16 +17,11 @@ pub fn from_euler_list<R: FromEuler<Scalar = f64> + Copy>(
     if out.len() < angles.len() {
         return Err(RotationFault::TooShort(2));
     }
-    for i in 0..angles.len() {
-        let (a, b, c) = angles[i];
-        let _ = R::from_euler_angles(order, a, b, c)?;
+    for &(a, b, c) in angles {
+        R::from_euler_angles(order, a, b, c)?;
     }
-    for j in 0..angles.len() {
-        let (a, b, c) = angles[j];
-        match R::from_euler_angles(order, a, b, c) {
-            Ok(rotation) => out[j] = rotation,
-            Err(_) => unreachable(),
-        }
+    for (i, &(a, b, c)) in angles.iter().enumerate() {
+        out[i] = R::from_euler_angles(order, a, b, c).unwrap();
     }
     Ok(angles.len())
 }

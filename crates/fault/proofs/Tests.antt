@@ -1,5 +1,5 @@
 -- What passes tests that follow one another, and what an accepted answer is.
-use Rattle.std.proofs.Common.{◌≡◌, Bool, true, false, Some, None, Ok, Option, sym, refl, true≢false}
+use Rattle.std.proofs.Common.{◌≡◌, ℕ, Bool, true, false, Some, None, Ok, Err, Option, Result, IsOk, sym, refl, true≢false, arith}
 use Rattle.fault.specs.Answers.{unless, within, ◌⨾◌, answer, clear}
 
 module _ {F : Type 0} where
@@ -23,6 +23,16 @@ pub clear_within : {F G : Type 0} (g : F → G) (o : Option F) → clear (within
 clear_within g (Some f) h = absurd (true≢false (sym h))
 clear_within g None h = refl
 
-pub ok_is : {F A : Type 0} (f : Option F) (q a : A) → Ok q ≡ answer f a → q ≡ a
-ok_is (Some f) q a e = cc
-ok_is None q a e = cc
+-- ---- an answer's parts
+
+module _ {F A : Type 0} where
+  pub answered : (o : Option F) (v q : A) → Ok q ≡ answer o v → (o ≡ None) × (q ≡ v)
+  answered None v q h = (refl, cc)
+  answered (Some f) v q h = let z : ◌≡◌ {A = ℕ} 0 1 = cc in absurd (omega arith)
+
+  pub refused : (o : Option F) (v : A) (e : F) → Err e ≡ answer o v → o ≡ Some e
+  refused None v e h = let z : ◌≡◌ {A = ℕ} 0 1 = cc in absurd (omega arith)
+  refused (Some f) v e h = cc
+
+  pub accepted : (o : Option F) (v : A) (r : Result A F) → o ≡ None → r ≡ answer o v → IsOk r
+  accepted o v r h e = rw e (rw h refl)

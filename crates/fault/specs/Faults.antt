@@ -1,5 +1,5 @@
 -- The refusals by their numbers, and the refusal, the place and the layer of each fault.
-use Rattle.std.specs.Prelude.{ℕ}
+use Rattle.std.specs.Prelude.{ℕ, Some, None}
 use Rattle.fault.specs.declared.Refusal.{Refusal}
 use Rattle.fault.specs.declared.Refusal.TheVariants as Why
 use Rattle.fault.specs.declared.Place.{Place}
@@ -85,10 +85,6 @@ rig_refusal (Rig.BookCheck _) = Why.BookCheck
 rig_refusal (Rig.BookContent _ _) = Why.BookContent
 rig_refusal (Rig.InRecord _ _ f) = rotation_refusal f
 
--- a record that is none, of the twelve from 0: the block as a whole
-abbrev pub no_record : ℕ
-no_record = 12
-
 abbrev pub rig_place : RigFault → Place
 rig_place (Rig.Rotation f) = rotation_place f
 rig_place (Rig.NoPosition p) = Position p
@@ -99,10 +95,10 @@ rig_place (Rig.TooDeep argument) = Argument argument
 rig_place (Rig.TooManyLoose p) = Position p
 rig_place (Rig.NoneLoose argument) = Argument argument
 rig_place (Rig.NotUnit argument) = Argument argument
-rig_place (Rig.BookLength block) = Record block no_record
-rig_place (Rig.BookCheck block) = Record block no_record
+rig_place (Rig.BookLength block) = Record block None
+rig_place (Rig.BookCheck block) = Record block None
 rig_place (Rig.BookContent block r) = Record block r
-rig_place (Rig.InRecord block r _) = Record block r
+rig_place (Rig.InRecord block r _) = Record block (Some r)
 
 abbrev pub rig_layer : RigFault → Layer
 rig_layer (Rig.Rotation f) = rotation_layer f

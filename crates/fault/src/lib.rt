@@ -4,6 +4,9 @@
 
 ghost use Rattle.std.specs.Prelude.{◌≡◌};
 ghost use Rattle.fault.specs.Faults.{number, refusal, place, layer, rotation_refusal, rotation_place, rotation_layer, rig_refusal, rig_place, rig_layer};
+ghost use Rattle.fault.specs.declared.Refusal.{Refusal as Reason};
+ghost use Rattle.fault.specs.declared.Place.{Place as About};
+ghost use Rattle.fault.specs.declared.Layer.{Layer as Within};
 ghost use Rattle.fault.specs.declared.RotationFault.TheVariants.{Number as OfNumber};
 ghost use Rattle.fault.specs.declared.RigFault.TheVariants.{Rotation as OfRotation};
 
@@ -29,20 +32,21 @@ pub enum Refusal {
     TooShort = 17,
 }
 
-impl Refusal {
-    pub fn number(self) -> u8
-        ensures { result ≡ number self }
-    {
-        self as u8
+impl From<Refusal> for u8 {
+    ghost from_gives = { λ why n. n ≡ number why };
+
+    fn from(refusal: Refusal) -> u8 {
+        refusal as u8
     }
 }
 
-// What a fault is about: an argument of the call, counted from 0 with the receiver first; a position of a rig; a record of a block of a book.
+// What a fault is about: an argument of the call, counted from 0 with the receiver first; a position of a rig; a block of a book, and
+// the record there if it is about one.
 #[derive(Clone, Copy, PartialEq, Eq, Debug)]
 pub enum Place {
     Argument(u8),
     Position(usize),
-    Record(u8, u8),
+    Record(u8, Option<u8>),
 }
 
 #[derive(Clone, Copy, PartialEq, Eq, Debug)]
@@ -52,6 +56,31 @@ pub enum Layer {
     Rig,
 }
 
+// What every fault tells, of whichever layer.
+pub trait Fault: Copy {
+    ghost reason: { Self → Reason };
+
+    ghost about: { Self → About };
+
+    ghost within: { Self → Within };
+
+    fn refusal(self) -> Refusal
+        ensures { result ≡ reason self };
+
+    fn place(self) -> Place
+        ensures { result ≡ about self };
+
+    fn layer(self) -> Layer
+        ensures { result ≡ within self };
+
+    // The number of its refusal.
+    fn number(self) -> u8
+        ensures { result ≡ number (reason self) }
+    {
+        u8::from(self.refusal())
+    }
+}
+
 // The fault of a number, with the argument that it is.
 #[derive(Clone, Copy, PartialEq, Eq, Debug)]
 pub enum NumberFault {
@@ -59,34 +88,27 @@ pub enum NumberFault {
     TooLarge(u8),
 }
 
-impl NumberFault {
-    pub fn number(self) -> u8
-        ensures { result ≡ number (refusal self) }
-    {
-        Refusal::number(self.refusal())
-    }
+impl Fault for NumberFault {
+    ghost reason = { refusal };
 
-    pub fn refusal(self) -> Refusal
-        ensures { result ≡ refusal self }
-    {
+    ghost about = { place };
+
+    ghost within = { layer };
+
+    fn refusal(self) -> Refusal {
         match self {
             NumberFault::NotFinite(_) => Refusal::NotFinite,
             NumberFault::TooLarge(_) => Refusal::TooLarge,
         }
     }
 
-    pub fn place(self) -> Place
-        ensures { result ≡ place self }
-    {
+    fn place(self) -> Place {
         match self {
-            NumberFault::NotFinite(argument) => Place::Argument(argument),
-            NumberFault::TooLarge(argument) => Place::Argument(argument),
+            NumberFault::NotFinite(a) | NumberFault::TooLarge(a) => Place::Argument(a),
         }
     }
 
-    pub fn layer(self) -> Layer
-        ensures { result ≡ layer self }
-    {
+    fn layer(self) -> Layer {
         Layer::Number
     }
 }
@@ -109,16 +131,14 @@ impl From<NumberFault> for RotationFault {
     }
 }
 
-impl RotationFault {
-    pub fn number(self) -> u8
-        ensures { result ≡ number (rotation_refusal self) }
-    {
-        self.refusal().number()
-    }
+impl Fault for RotationFault {
+    ghost reason = { rotation_refusal };
 
-    pub fn refusal(self) -> Refusal
-        ensures { result ≡ rotation_refusal self }
-    {
+    ghost about = { rotation_place };
+
+    ghost within = { rotation_layer };
+
+    fn refusal(self) -> Refusal {
         match self {
             RotationFault::Number(f) => f.refusal(),
             RotationFault::NotNormalized(_) => Refusal::NotNormalized,
@@ -128,25 +148,18 @@ impl RotationFault {
         }
     }
 
-    pub fn place(self) -> Place
-        ensures { result ≡ rotation_place self }
-    {
+    fn place(self) -> Place {
         match self {
             RotationFault::Number(f) => f.place(),
-            RotationFault::NotNormalized(argument) => Place::Argument(argument),
-            RotationFault::NotNormalizable(argument) => Place::Argument(argument),
-            RotationFault::UnknownOrder(argument) => Place::Argument(argument),
-            RotationFault::TooShort(argument) => Place::Argument(argument),
+            RotationFault::NotNormalized(a) | RotationFault::UnknownOrder(a) => Place::Argument(a),
+            RotationFault::NotNormalizable(a) | RotationFault::TooShort(a) => Place::Argument(a),
         }
     }
 
-    pub fn layer(self) -> Layer
-        ensures { result ≡ rotation_layer self }
-    {
+    fn layer(self) -> Layer {
         match self {
             RotationFault::Number(f) => f.layer(),
-            RotationFault::NotNormalized(_) | RotationFault::NotNormalizable(_) => Layer::Rotation,
-            RotationFault::UnknownOrder(_) | RotationFault::TooShort(_) => Layer::Rotation,
+            _ => Layer::Rotation,
         }
     }
 }
@@ -165,7 +178,7 @@ pub enum RigFault {
     NotUnit(u8),
     BookLength(u8),
     BookCheck(u8),
-    BookContent(u8, u8),
+    BookContent(u8, Option<u8>),
     InRecord(u8, u8, RotationFault),
 }
 
@@ -177,20 +190,14 @@ impl From<RotationFault> for RigFault {
     }
 }
 
-// Where a record is named that is none: the block as a whole, or the book.
-pub const NO_RECORD: u8 = 12;
+impl Fault for RigFault {
+    ghost reason = { rig_refusal };
 
-impl RigFault {
-    pub fn number(self) -> u8
-        ensures { result ≡ number (rig_refusal self) }
-    {
-        let refusal = self.refusal();
-        refusal.number()
-    }
+    ghost about = { rig_place };
 
-    pub fn refusal(self) -> Refusal
-        ensures { result ≡ rig_refusal self }
-    {
+    ghost within = { rig_layer };
+
+    fn refusal(self) -> Refusal {
         match self {
             RigFault::Rotation(f) | RigFault::InRecord(_, _, f) => f.refusal(),
             RigFault::NoPosition(_) => Refusal::NoPosition,
@@ -207,29 +214,20 @@ impl RigFault {
         }
     }
 
-    pub fn place(self) -> Place
-        ensures { result ≡ rig_place self }
-    {
+    fn place(self) -> Place {
         match self {
             RigFault::Rotation(f) => f.place(),
-            RigFault::NoPosition(p) => Place::Position(p),
-            RigFault::Taken(p) => Place::Position(p),
-            RigFault::Bare(p) => Place::Position(p),
-            RigFault::TooManyTurns(p) => Place::Position(p),
-            RigFault::TooDeep(argument) => Place::Argument(argument),
-            RigFault::TooManyLoose(p) => Place::Position(p),
-            RigFault::NoneLoose(argument) => Place::Argument(argument),
-            RigFault::NotUnit(argument) => Place::Argument(argument),
-            RigFault::BookLength(block) => Place::Record(block, NO_RECORD),
-            RigFault::BookCheck(block) => Place::Record(block, NO_RECORD),
+            RigFault::NoPosition(p) | RigFault::Taken(p) | RigFault::Bare(p) => Place::Position(p),
+            RigFault::TooManyTurns(p) | RigFault::TooManyLoose(p) => Place::Position(p),
+            RigFault::TooDeep(a) | RigFault::NoneLoose(a) => Place::Argument(a),
+            RigFault::NotUnit(a) => Place::Argument(a),
+            RigFault::BookLength(block) | RigFault::BookCheck(block) => Place::Record(block, None),
             RigFault::BookContent(block, record) => Place::Record(block, record),
-            RigFault::InRecord(block, record, _) => Place::Record(block, record),
+            RigFault::InRecord(block, record, _) => Place::Record(block, Some(record)),
         }
     }
 
-    pub fn layer(self) -> Layer
-        ensures { result ≡ rig_layer self }
-    {
+    fn layer(self) -> Layer {
         match self {
             RigFault::Rotation(f) | RigFault::InRecord(_, _, f) => f.layer(),
             _ => Layer::Rig,

@@ -1,6 +1,6 @@
 use Rattle.euler.specs.Names.{all}
 use Rattle.euler.proofs.Spelling.{unnamed}
-use Rattle.euler.proofs.EulerRot.from_name.Goals as goal
+use Rattle.euler.proofs.EulerRotFromStr.from_str.Goals as goal
 
 pub returns-in_default : goal.returns-in_default
 returns-in_default c =
