@@ -1,7 +1,7 @@
 -- Vectors of floats by glam's formulas, each operation rounded once in the order written.
 use Rattle.std.specs.Prelude.{ℕ, zero, suc, Bool, cond, ◌&&◌, ◌||◌, List, Option, is_nan, slice_index_or, Float}
 use Rattle.std.specs.Float.Ieee.{neg, le, lt}
-use Rattle.std.specs.Float.{float_is_finite, float_is_infinite, sqrt, float_signum, nan, binary64}
+use Rattle.std.specs.Float.{float_is_finite, float_is_infinite, float_signum, nan}
 use Rattle.fault.specs.Answers.{unless, ◌⨾◌}
 use Rattle.fault.specs.declared.NumberFault.TheVariants.{NotFinite}
 use Rattle.fault.specs.declared.RotationFault.{RotationFault}
@@ -10,21 +10,12 @@ use Rattle.exact.specs.Quat.{Quat, square, minus, scale}
 use Rattle.exact.specs.Vector.{Vec, dot3}
 use Rattle.rounding.specs.Value.{floats}
 use Rattle.numeric.specs.Floats.{◌⊕◌, ◌⊖◌, ◌⊗◌, ◌⊘◌, bits, one, size}
+pub use Rattle.vectors.specs.Lengths.{unit, recip}
 use Rattle.vectors.specs.Masks.{mask, every}
 use Rattle.vectors.specs.declared.bvec4.BVec4.{BVec4}
 use Rattle.vectors.specs.declared.dvec2.DVec2.{DVec2}
 use Rattle.vectors.specs.declared.dvec3.DVec3.{DVec3}
 use Rattle.vectors.specs.declared.dvec4.DVec4.{DVec4}
-
--- ---- lengths
-
--- | s − 1 | ≤ 0.0002, in floats, for a squared length s
-abbrev pub unit : Float → Bool
-unit s = le (size (s ⊖ one)) (bits 0x3F2A_36E2_EB1C_432D)
-
--- 1 / √s
-abbrev pub recip : Float → Float
-recip s = one ⊘ sqrt binary64 s
 
 -- ---- two components
 
@@ -36,6 +27,9 @@ dot2 u v = u.x ⊗ v.x ⊕ u.y ⊗ v.y
 
 abbrev pub finite2 : DVec2 → Bool
 finite2 v = float_is_finite v.x && float_is_finite v.y
+
+abbrev pub nan2 : DVec2 → Bool
+nan2 v = is_nan v.x || is_nan v.y
 
 -- ---- three components
 

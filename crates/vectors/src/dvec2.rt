@@ -1,6 +1,8 @@
 // A 2-dimensional vector.
 ghost use Rattle.std.specs.Prelude.{◌≡◌};
-ghost use Rattle.vectors.specs.Vectors.{vec2, dot2, finite2, unit};
+ghost use Rattle.vectors.specs.Vectors.{vec2, dot2, finite2, nan2};
+
+use crate::Vector;
 
 #[derive(Clone, Copy, PartialEq, Debug)]
 pub struct DVec2 {
@@ -14,32 +16,24 @@ impl DVec2 {
     {
         DVec2 { x, y }
     }
+}
 
-    // The dot product of `self` and `rhs`.
-    pub fn dot(self, rhs: DVec2) -> f64
-        ensures { result ≡ dot2 self rhs }
-    {
+impl Vector for DVec2 {
+    ghost inner = { dot2 };
+
+    ghost finite = { finite2 };
+
+    ghost some_nan = { nan2 };
+
+    fn dot(self, rhs: DVec2) -> f64 {
         (self.x * rhs.x) + (self.y * rhs.y)
     }
 
-    // The squared length of `self`.
-    pub fn length_squared(self) -> f64
-        ensures { result ≡ dot2 self self }
-    {
-        self.dot(self)
-    }
-
-    // Whether every component is finite.
-    pub fn is_finite(self) -> bool
-        ensures { result ≡ finite2 self }
-    {
+    fn is_finite(self) -> bool {
         self.x.is_finite() && self.y.is_finite()
     }
 
-    // Whether the squared length is within 2e-4 of 1.
-    pub fn is_normalized(self) -> bool
-        ensures { result ≡ unit (dot2 self self) }
-    {
-        (self.length_squared() - 1.0).abs() <= 2e-4
+    fn is_nan(self) -> bool {
+        self.x.is_nan() || self.y.is_nan()
     }
 }

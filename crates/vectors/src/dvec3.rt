@@ -9,8 +9,9 @@ ghost use Rattle.rounding.specs.Value.{floats};
 ghost use Rattle.vectors.specs.Masks.{index_fault};
 ghost use Rattle.vectors.specs.Vectors.{parts, vec3, listed3, minus3, over3, opposite3, finite3, nan3, unit, unit_fault, recip, orthonormal, component};
 
-use fault::{NumberFault, RotationFault};
-use numeric::sqrt;
+use crate::Vector;
+use fault::RotationFault;
+use std::ops::{Add, Div, Mul, Neg, Sub};
 
 #[derive(Clone, Copy, PartialEq, Debug)]
 pub struct DVec3 {
@@ -85,13 +86,6 @@ impl DVec3 {
         }
     }
 
-    // The dot product of `self` and `rhs`.
-    pub fn dot(self, rhs: DVec3) -> f64
-        ensures { result ≡ dot3 floats (parts self) (parts rhs) }
-    {
-        (self.x * rhs.x) + (self.y * rhs.y) + (self.z * rhs.z)
-    }
-
     // The cross product of `self` and `rhs`.
     pub fn cross(self, rhs: DVec3) -> DVec3
         ensures { parts result ≡ cross3 floats (parts self) (parts rhs) }
@@ -103,58 +97,12 @@ impl DVec3 {
         )
     }
 
-    // Whether every component is finite.
-    pub fn is_finite(self) -> bool
-        ensures { result ≡ finite3 (parts self) }
-    {
-        self.x.is_finite() && self.y.is_finite() && self.z.is_finite()
-    }
-
-    // Whether some component is no number.
-    pub fn is_nan(self) -> bool
-        ensures { result ≡ nan3 (parts self) }
-    {
-        self.x.is_nan() || self.y.is_nan() || self.z.is_nan()
-    }
-
-    // The length of `self`.
-    pub fn length(self) -> f64
-        ensures { result ≡ Floats.sqrt binary64 (dot3 floats (parts self) (parts self)) }
-    {
-        sqrt(self.dot(self))
-    }
-
-    // The squared length of `self`.
-    pub fn length_squared(self) -> f64
-        ensures { result ≡ dot3 floats (parts self) (parts self) }
-    {
-        self.dot(self)
-    }
-
-    // `1.0 / length()`.
-    pub fn length_recip(self) -> f64
-        ensures { result ≡ recip (dot3 floats (parts self) (parts self)) }
-    {
-        1.0 / self.length()
-    }
-
-    // Whether the squared length is within 2e-4 of 1.
-    pub fn is_normalized(self) -> bool
-        ensures { result ≡ unit (dot3 floats (parts self) (parts self)) }
-    {
-        (self.length_squared() - 1.0).abs() <= 2e-4
-    }
-
     // A vector of length 1 that is orthogonal to `self`, which is to be normalised. After Duff et al., "Building an Orthonormal Basis, Revisited", 2017.
     pub fn any_orthonormal_vector(self) -> Result<DVec3, RotationFault>
         ensures { result ≡ answer (unit_fault 0 (parts self)) (orthonormal self) }
     {
-        if !self.is_finite() {
-            return Err(RotationFault::Number(NumberFault::NotFinite(0)));
-        }
-        if !self.is_normalized() {
-            return Err(RotationFault::NotNormalized(0));
-        }
+        self.check_finite(0)?;
+        self.check_normalized(0)?;
         Ok(self.orthonormal_raw())
     }
 
@@ -174,39 +122,74 @@ impl DVec3 {
     {
         DVec3::new(self.z, self.y, self.x)
     }
+}
 
-    // The original's `self + rhs`.
-    pub fn add(self, rhs: DVec3) -> DVec3
-        ensures { parts result ≡ plus3 floats (parts self) (parts rhs) }
-    {
+impl Vector for DVec3 {
+    ghost inner = { λ u v. dot3 floats (parts u) (parts v) };
+
+    ghost finite = { λ v. finite3 (parts v) };
+
+    ghost some_nan = { λ v. nan3 (parts v) };
+
+    fn dot(self, rhs: DVec3) -> f64 {
+        (self.x * rhs.x) + (self.y * rhs.y) + (self.z * rhs.z)
+    }
+
+    fn is_finite(self) -> bool {
+        self.x.is_finite() && self.y.is_finite() && self.z.is_finite()
+    }
+
+    fn is_nan(self) -> bool {
+        self.x.is_nan() || self.y.is_nan() || self.z.is_nan()
+    }
+}
+
+impl Add for DVec3 {
+    type Output = DVec3;
+
+    ghost add_gives = { λ u v r. parts r ≡ plus3 floats (parts u) (parts v) };
+
+    fn add(self, rhs: DVec3) -> DVec3 {
         DVec3::new(self.x + rhs.x, self.y + rhs.y, self.z + rhs.z)
     }
+}
 
-    // The original's `self - rhs`.
-    pub fn sub(self, rhs: DVec3) -> DVec3
-        ensures { parts result ≡ minus3 (parts self) (parts rhs) }
-    {
+impl Sub for DVec3 {
+    type Output = DVec3;
+
+    ghost sub_gives = { λ u v r. parts r ≡ minus3 (parts u) (parts v) };
+
+    fn sub(self, rhs: DVec3) -> DVec3 {
         DVec3::new(self.x - rhs.x, self.y - rhs.y, self.z - rhs.z)
     }
+}
 
-    // The original's `self * rhs` with a number.
-    pub fn mul_scalar(self, rhs: f64) -> DVec3
-        ensures { parts result ≡ scale3 floats (parts self) rhs }
-    {
+impl Mul<f64> for DVec3 {
+    type Output = DVec3;
+
+    ghost mul_gives = { λ v s r. parts r ≡ scale3 floats (parts v) s };
+
+    fn mul(self, rhs: f64) -> DVec3 {
         DVec3::new(self.x * rhs, self.y * rhs, self.z * rhs)
     }
+}
 
-    // The original's `self / rhs` with a number.
-    pub fn div_scalar(self, rhs: f64) -> DVec3
-        ensures { parts result ≡ over3 (parts self) rhs }
-    {
+impl Div<f64> for DVec3 {
+    type Output = DVec3;
+
+    ghost div_gives = { λ v s r. parts r ≡ over3 (parts v) s };
+
+    fn div(self, rhs: f64) -> DVec3 {
         DVec3::new(self.x / rhs, self.y / rhs, self.z / rhs)
     }
+}
 
-    // The original's `-self`.
-    pub fn neg(self) -> DVec3
-        ensures { parts result ≡ opposite3 (parts self) }
-    {
+impl Neg for DVec3 {
+    type Output = DVec3;
+
+    ghost neg_gives = { λ v r. parts r ≡ opposite3 (parts v) };
+
+    fn neg(self) -> DVec3 {
         DVec3::new(-self.x, -self.y, -self.z)
     }
 }

@@ -8,9 +8,9 @@ ghost use Rattle.rounding.specs.Value.{floats};
 ghost use Rattle.vectors.specs.Masks.{every};
 ghost use Rattle.vectors.specs.Vectors.{vec4, vector4, parts4, finite4, nan4, unit, recip, over4, opposite4, size4, at_most, overflows, underflows, scaled, normal, normal_fault, close4};
 
-use crate::BVec4;
+use crate::{BVec4, Vector};
 use fault::RotationFault;
-use numeric::sqrt;
+use std::ops::{Add, Div, Mul, Neg, Sub};
 
 // 2^600 and 2^-600: a vector whose squared length overflows, or is too small for all its digits, is scaled before it is normalised.
 const LARGER: f64 = 4.149515568880993e180;
@@ -44,13 +44,6 @@ impl DVec4 {
         }
     }
 
-    // The dot product of `self` and `rhs`.
-    pub fn dot(self, rhs: DVec4) -> f64
-        ensures { result ≡ dot floats (parts4 self) (parts4 rhs) }
-    {
-        (self.x * rhs.x) + (self.y * rhs.y) + (self.z * rhs.z) + (self.w * rhs.w)
-    }
-
     // Which elements of `self` are at most those of `rhs`.
     pub fn cmple(self, rhs: DVec4) -> BVec4
         ensures { result ≡ at_most self rhs }
@@ -68,41 +61,6 @@ impl DVec4 {
         ensures { parts4 result ≡ size4 (parts4 self) }
     {
         DVec4::new(self.x.abs(), self.y.abs(), self.z.abs(), self.w.abs())
-    }
-
-    // Whether every component is finite.
-    pub fn is_finite(self) -> bool
-        ensures { result ≡ finite4 (parts4 self) }
-    {
-        self.x.is_finite() && self.y.is_finite() && self.z.is_finite() && self.w.is_finite()
-    }
-
-    // Whether some component is no number.
-    pub fn is_nan(self) -> bool
-        ensures { result ≡ nan4 (parts4 self) }
-    {
-        self.x.is_nan() || self.y.is_nan() || self.z.is_nan() || self.w.is_nan()
-    }
-
-    // The length of `self`.
-    pub fn length(self) -> f64
-        ensures { result ≡ Floats.sqrt binary64 (square floats (parts4 self)) }
-    {
-        sqrt(self.dot(self))
-    }
-
-    // The squared length of `self`.
-    pub fn length_squared(self) -> f64
-        ensures { result ≡ square floats (parts4 self) }
-    {
-        self.dot(self)
-    }
-
-    // `1.0 / length()`.
-    pub fn length_recip(self) -> f64
-        ensures { result ≡ recip (square floats (parts4 self)) }
-    {
-        1.0 / self.length()
     }
 
     // Whether finite components have an infinite squared length.
@@ -125,9 +83,9 @@ impl DVec4 {
         ensures { parts4 result ≡ scaled (parts4 self) }
     {
         if self.overflows() {
-            self.mul_scalar(SMALLER)
+            self * SMALLER
         } else if self.underflows() {
-            self.mul_scalar(LARGER)
+            self * LARGER
         } else {
             self
         }
@@ -138,7 +96,7 @@ impl DVec4 {
         ensures { result ≡ answer (normal_fault (parts4 self)) (vector4 (normal (parts4 self))) }
     {
         let v = self.in_range();
-        let normalized = v.mul_scalar(v.length_recip());
+        let normalized = v * v.length_recip();
         if normalized.is_finite() {
             Ok(normalized)
         } else {
@@ -146,24 +104,40 @@ impl DVec4 {
         }
     }
 
-    // Whether the squared length is within 2e-4 of 1.
-    pub fn is_normalized(self) -> bool
-        ensures { result ≡ unit (square floats (parts4 self)) }
-    {
-        (self.length_squared() - 1.0).abs() <= 2e-4
-    }
-
     // Whether all components differ by at most `max_abs_diff`.
     pub fn abs_diff_eq(self, rhs: DVec4, max_abs_diff: f64) -> bool
         ensures { result ≡ close4 (parts4 self) (parts4 rhs) max_abs_diff }
     {
-        self.sub(rhs).abs().cmple(DVec4::splat(max_abs_diff)).all()
+        (self - rhs).abs().cmple(DVec4::splat(max_abs_diff)).all()
+    }
+}
+
+impl Vector for DVec4 {
+    ghost inner = { λ u v. dot floats (parts4 u) (parts4 v) };
+
+    ghost finite = { λ v. finite4 (parts4 v) };
+
+    ghost some_nan = { λ v. nan4 (parts4 v) };
+
+    fn dot(self, rhs: DVec4) -> f64 {
+        (self.x * rhs.x) + (self.y * rhs.y) + (self.z * rhs.z) + (self.w * rhs.w)
     }
 
-    // The original's `self + rhs`.
-    pub fn add(self, rhs: DVec4) -> DVec4
-        ensures { parts4 result ≡ plus floats (parts4 self) (parts4 rhs) }
-    {
+    fn is_finite(self) -> bool {
+        self.x.is_finite() && self.y.is_finite() && self.z.is_finite() && self.w.is_finite()
+    }
+
+    fn is_nan(self) -> bool {
+        self.x.is_nan() || self.y.is_nan() || self.z.is_nan() || self.w.is_nan()
+    }
+}
+
+impl Add for DVec4 {
+    type Output = DVec4;
+
+    ghost add_gives = { λ u v r. parts4 r ≡ plus floats (parts4 u) (parts4 v) };
+
+    fn add(self, rhs: DVec4) -> DVec4 {
         DVec4::new(
             self.x + rhs.x,
             self.y + rhs.y,
@@ -171,11 +145,14 @@ impl DVec4 {
             self.w + rhs.w,
         )
     }
+}
 
-    // The original's `self - rhs`.
-    pub fn sub(self, rhs: DVec4) -> DVec4
-        ensures { parts4 result ≡ minus floats (parts4 self) (parts4 rhs) }
-    {
+impl Sub for DVec4 {
+    type Output = DVec4;
+
+    ghost sub_gives = { λ u v r. parts4 r ≡ minus floats (parts4 u) (parts4 v) };
+
+    fn sub(self, rhs: DVec4) -> DVec4 {
         DVec4::new(
             self.x - rhs.x,
             self.y - rhs.y,
@@ -183,25 +160,34 @@ impl DVec4 {
             self.w - rhs.w,
         )
     }
+}
 
-    // The original's `self * rhs` with a number.
-    pub fn mul_scalar(self, rhs: f64) -> DVec4
-        ensures { parts4 result ≡ scale floats (parts4 self) rhs }
-    {
+impl Mul<f64> for DVec4 {
+    type Output = DVec4;
+
+    ghost mul_gives = { λ v s r. parts4 r ≡ scale floats (parts4 v) s };
+
+    fn mul(self, rhs: f64) -> DVec4 {
         DVec4::new(self.x * rhs, self.y * rhs, self.z * rhs, self.w * rhs)
     }
+}
 
-    // The original's `self / rhs` with a number.
-    pub fn div_scalar(self, rhs: f64) -> DVec4
-        ensures { parts4 result ≡ over4 (parts4 self) rhs }
-    {
+impl Div<f64> for DVec4 {
+    type Output = DVec4;
+
+    ghost div_gives = { λ v s r. parts4 r ≡ over4 (parts4 v) s };
+
+    fn div(self, rhs: f64) -> DVec4 {
         DVec4::new(self.x / rhs, self.y / rhs, self.z / rhs, self.w / rhs)
     }
+}
 
-    // The original's `-self`.
-    pub fn neg(self) -> DVec4
-        ensures { parts4 result ≡ opposite4 (parts4 self) }
-    {
+impl Neg for DVec4 {
+    type Output = DVec4;
+
+    ghost neg_gives = { λ v r. parts4 r ≡ opposite4 (parts4 v) };
+
+    fn neg(self) -> DVec4 {
         DVec4::new(-self.x, -self.y, -self.z, -self.w)
     }
 }
