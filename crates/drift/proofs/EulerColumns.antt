@@ -24,11 +24,11 @@ use Rattle.rounding.proofs.Operations.{rounds_≤, rounds_then}
 use Rattle.rounding.proofs.Approx.{Approx}
 use Rattle.rounding.proofs.Analysis.{Form, leaf, forms, Leaves, float, number, meets, ∎, ◌⊳◌, analyse}
 use Rattle.rounding.proofs.Stated.{rounded}
-use Rattle.euler.specs.Orders.{order, same, second, third}
+use Rattle.euler.specs.Orders.{letter, order, same, second, third}
 use Rattle.euler.specs.declared.Axis.{Axis}
 use Rattle.euler.specs.declared.Axis.TheVariants.{X, Y, Z}
 use Rattle.euler.specs.declared.Order.{Order}
-use Rattle.euler.proofs.Turns.{letter, ends, both_ends, in_order, name_turn}
+use Rattle.euler.proofs.Turns.{ends, both_ends, in_order, name_turn}
 use Rattle.drift.specs.Columns.{Nine, nine, pick, placed_column, column}
 use Rattle.drift.specs.EulerLaws.{IsColumn, unit, EulerColumnLaw}
 use Rattle.drift.proofs.EulerAngles.{Sines, sines_of, flip, halved, ε, signed_sines, Small, small, pair_of, turned_back}

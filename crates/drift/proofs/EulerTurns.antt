@@ -17,11 +17,11 @@ use Rattle.rounding.specs.Value.{val, floats}
 use Rattle.rounding.proofs.Approx.{Approx, constant}
 use Rattle.rounding.proofs.Analysis.{forms, Approxs, ∎, ◌⊳◌, analyse4}
 use Rattle.numeric.specs.Floats.{◌⊗◌ as ◌⊗ᶠ◌, half}
-use Rattle.euler.specs.Orders.{letters, order, second, third}
+use Rattle.euler.specs.Orders.{letter, letters, order, second, third}
 use Rattle.euler.specs.declared.Axis.{Axis}
 use Rattle.euler.specs.declared.Axis.TheVariants.{X, Y, Z}
 use Rattle.euler.specs.declared.Order.{Order}
-use Rattle.euler.proofs.Turns.{letter, ends, both_ends, in_order, name_turn}
+use Rattle.euler.proofs.Turns.{ends, both_ends, in_order, name_turn}
 use Rattle.drift.proofs.EulerAngles.{Sines, sines_of, flip, halved, ε, full, signed_half_sines, Small, small, pair_of, turned_back}
 use Rattle.drift.specs.Turns.{Angle, angle, place, four, assembled, parity, by_order}
 use Rattle.drift.specs.EulerLaws.{OrderTurnLaw}

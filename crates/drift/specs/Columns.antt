@@ -4,11 +4,10 @@ use Rattle.exact.specs.Quat.{Ops}
 use Rattle.exact.specs.Vector.{Vec, vec}
 use Rattle.rounding.specs.Value.{floats}
 use Rattle.numeric.specs.Sine.{sin_float, cos_float}
-use Rattle.euler.specs.Orders.{index, second}
+use Rattle.euler.specs.Orders.{index, second, signed}
 use Rattle.euler.specs.declared.Axis.{Axis}
 use Rattle.euler.specs.declared.Axis.TheVariants.{X, Y, Z}
 use Rattle.euler.specs.declared.Order.{Order}
-use Rattle.drift.specs.Turns.{signed}
 
 -- nine numbers by the axes i, j and k: first the column, then the row
 pub record Nine (A : Type 0) : Type 0 where

@@ -7,7 +7,7 @@ use Rattle.exact.specs.Turn.{along}
 use Rattle.rounding.specs.Value.{floats}
 use Rattle.numeric.specs.Floats.{◌⊗◌, zero, half, one}
 use Rattle.numeric.specs.Sine.{sin_float, cos_float}
-use Rattle.euler.specs.Orders.{second, other}
+use Rattle.euler.specs.Orders.{second, other, signed}
 use Rattle.euler.specs.declared.Axis.{Axis}
 use Rattle.euler.specs.declared.Axis.TheVariants.{X, Y, Z}
 use Rattle.euler.specs.declared.Order.{Order}
@@ -64,9 +64,6 @@ module _ {A : Type 0} (O : Ops A) where
 
 abbrev pub parity : Bool → Float
 parity even = cond even (neg one) one
-
-abbrev pub signed : Bool → Float → Float
-signed even t = cond even (neg t) t
 
 -- with Ex the angles are read backwards; the middle one is taken at the opposite where the parity is even
 unfoldable pub by_order : Order → Float → Float → Float → Quat Float

@@ -1,3 +1,4 @@
 pub mod Spelling
 pub mod Lists
 pub mod Turns
+pub mod Angles

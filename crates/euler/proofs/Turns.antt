@@ -5,16 +5,10 @@ use Rattle.exact.specs.Quat.{Quat, fractions, product}
 use Rattle.exact.specs.Turn as exact
 use Rattle.exact.specs.Turn.{Letters, about, exact_turn}
 use Rattle.euler.specs.declared.Axis.{Axis}
-use Rattle.euler.specs.declared.Axis.TheVariants.{X, Y, Z}
 use Rattle.euler.specs.declared.EulerRot.{EulerRot}
 use Rattle.euler.specs.declared.Order.{Order}
-use Rattle.euler.specs.Orders.{axis, letters, order, order_of, second, third, Spells}
+use Rattle.euler.specs.Orders.{axis, letter, letters, order, order_of, second, third, Spells}
 use Rattle.euler.proofs.Spelling.{each_name}
-
-abbrev pub letter : Axis → exact.Axis
-letter X = exact.X
-letter Y = exact.Y
-letter Z = exact.Z
 
 letter_of : (a : exact.Axis) → a ≡ letter (axis a)
 letter_of exact.X = refl

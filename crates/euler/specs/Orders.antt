@@ -57,6 +57,11 @@ axis exact.X = X
 axis exact.Y = Y
 axis exact.Z = Z
 
+abbrev pub letter : Axis → exact.Axis
+letter X = exact.X
+letter Y = exact.Y
+letter Z = exact.Z
+
 abbrev pub index : Axis → ℕ
 index X = 0
 index Y = 1
@@ -122,8 +127,8 @@ abbrev pub signed : Bool → Float → Float
 signed even t = cond even (neg t) t
 
 -- with Ex read backwards
-abbrev pub in_order : Bool → Float × Float × Float → Float × Float × Float
-in_order static t = cond static t (t.2, t.1, t.0)
+abbrev pub as_read : Bool → Float × Float × Float → Float × Float × Float
+as_read static t = cond static t (t.2, t.1, t.0)
 
 -- ---- laws
 

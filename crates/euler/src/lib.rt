@@ -5,7 +5,7 @@ ghost use Rattle.std.specs.Prelude.{◌≡◌, Option, Some};
 ghost use Rattle.std.specs.Fmt.{padded};
 ghost use Rattle.fault.specs.Answers.{answer};
 ghost use Rattle.fault.specs.declared.RotationFault.{RotationFault as Fault};
-ghost use Rattle.euler.specs.Orders.{order, angle_order, made, signed, in_order, LettersLaw, Examples};
+ghost use Rattle.euler.specs.Orders.{order, angle_order, made, signed, as_read, LettersLaw, Examples};
 ghost use Rattle.euler.specs.Names.{name, named, NamesLaw};
 ghost use Rattle.euler.specs.declared.EulerRot.{EulerRot as Rot};
 ghost use Rattle.euler.specs.declared.EulerRot.TheVariants.{YXZ};
@@ -237,8 +237,8 @@ impl Order {
     }
 
     // Three angles as they are written, or with Ex read backwards.
-    pub fn in_order(self, angles: (f64, f64, f64)) -> (f64, f64, f64)
-        ensures { result ≡ in_order self.frame_static angles }
+    pub fn as_read(self, angles: (f64, f64, f64)) -> (f64, f64, f64)
+        ensures { result ≡ as_read self.frame_static angles }
     {
         if self.frame_static {
             angles

@@ -6,11 +6,10 @@ use Rattle.rounding.specs.Value.{floats}
 use Rattle.numeric.specs.Floats.{◌⊕◌, ◌⊗◌, bits}
 use Rattle.numeric.specs.ArcTangent.{atan2_float}
 use Rattle.vectors.specs.Vectors.{vector}
-use Rattle.euler.specs.Orders.{order, angle_order}
+use Rattle.euler.specs.Orders.{order, angle_order, signed, as_read}
 use Rattle.euler.specs.declared.Axis.TheVariants.{X, Y, Z}
 use Rattle.euler.specs.declared.EulerRot.{EulerRot}
 use Rattle.euler.specs.declared.Order.{Order}
-use Rattle.drift.specs.Turns.{signed}
 use Rattle.drift.specs.Columns.{Nine, nine, placed_column, sin_cos}
 use Rattle.matrix.specs.declared.dmat3.DMat3.{DMat3}
 use Rattle.matrix.specs.Matrices.{matrix, entry}
@@ -58,11 +57,8 @@ angles_of false e n border = plain_angles e n.0 n.1 n.2 border
 abbrev pub opposite : Bool → Angles → Angles
 opposite even t = cond even (neg t.0, neg t.1, neg t.2) t
 
-abbrev pub forwards : Bool → Angles → Angles
-forwards static t = cond static t (t.2, t.1, t.0)
-
 unfoldable pub to_euler : Float → DMat3 → EulerRot → Angles
-to_euler border m n = let o = order n in forwards o.frame_static (opposite o.parity_even (angles_of o.initial_repeated (entry m) (angle_order o) border))
+to_euler border m n = let o = order n in as_read o.frame_static (opposite o.parity_even (angles_of o.initial_repeated (entry m) (angle_order o) border))
 
 -- 16 · 2^-52
 abbrev pub pole : Float

@@ -5,7 +5,7 @@ ghost use Rattle.vectors.specs.Masks.{index_fault};
 ghost use Rattle.matrix.specs.Matrices.{matrix, listed, column, entry, finite9, axes_fault};
 
 use fault::{NumberFault, RotationFault};
-use vectors::DVec3;
+use vectors::{DVec3, Vector};
 
 #[derive(Clone, Copy, PartialEq, Debug)]
 pub struct DMat3 {

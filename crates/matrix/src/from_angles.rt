@@ -4,7 +4,6 @@ ghost use Rattle.fault.specs.Answers.{answer};
 ghost use Rattle.rounding.specs.Value.{floats};
 ghost use Rattle.drift.specs.Tests.{euler_fault};
 ghost use Rattle.drift.specs.Columns.{nine};
-ghost use Rattle.drift.specs.Turns.{signed};
 ghost use Rattle.matrix.specs.Angles.{placed, by_order, from_euler};
 ghost use Rattle.matrix.specs.EulerLaws.{IsEulerMatrix};
 
@@ -50,23 +49,17 @@ fn from_sines(order: Order, first: (f64, f64), middle: (f64, f64), last: (f64, f
     DMat3::from_cols_array_2d(m)
 }
 
-fn signed(even: bool, angle: f64) -> f64
-    ensures { result ≡ signed even angle }
-{
-    if even { -angle } else { angle }
-}
-
 // With Ex the angles are read backwards; all are taken at the opposite where the parity is even.
+#[tactic(auto, using(euler::proofs::Angles::each_read), unfolding(crate::specs::Angles::by_order))]
 fn by_order(order: Order, x: f64, y: f64, z: f64) -> DMat3
     ensures { result ≡ by_order order x y z }
 {
-    let (first, last) = if order.frame_static { (x, z) } else { (z, x) };
-    let even = order.parity_even;
+    let (first, middle, last) = order.as_read((x, y, z));
     from_sines(
         order,
-        sin_cos_raw(signed(even, first)),
-        sin_cos_raw(signed(even, y)),
-        sin_cos_raw(signed(even, last)),
+        sin_cos_raw(order.signed(first)),
+        sin_cos_raw(order.signed(middle)),
+        sin_cos_raw(order.signed(last)),
     )
 }
 
@@ -77,11 +70,12 @@ impl FromEuler for DMat3 {
 
     ghost rotation = { λ n x y z. from_euler n x y z };
 
+    #[tactic(auto, unfolding(crate::specs::Angles::from_euler))]
     fn from_euler_angles(euler: EulerRot, x: f64, y: f64, z: f64) -> Result<DMat3, RotationFault> {
         check_angle(1, x)?;
         check_angle(2, y)?;
         check_angle(3, z)?;
-        Ok(by_order(Order::from_euler(euler), x, y, z))
+        Ok(by_order(Order::from(euler), x, y, z))
     }
 }
 

@@ -3,7 +3,7 @@ ghost use Rattle.std.specs.Prelude.{◌≡◌};
 ghost use Rattle.fault.specs.Answers.{answer};
 ghost use Rattle.euler.specs.Orders.{angle_order};
 ghost use Rattle.matrix.specs.Matrices.{entry, axes_fault};
-ghost use Rattle.matrix.specs.Angles.{repeated_angles, plain_angles, angles_of, opposite, forwards, to_euler, pole};
+ghost use Rattle.matrix.specs.Angles.{repeated_angles, plain_angles, angles_of, to_euler, pole};
 
 use crate::DMat3;
 use euler::{EulerRot, Order, ToEuler};
@@ -64,14 +64,17 @@ impl DMat3 {
     }
 
     // The angles with no test of the matrix, for a caller that has tested it; `border` stands for the pole's.
+    #[tactic(auto, using(euler::proofs::Angles::each_signed), unfolding(crate::specs::Angles::to_euler))]
     pub fn to_euler_raw(self, euler: EulerRot, border: f64) -> (f64, f64, f64)
         ensures { result ≡ to_euler border self euler }
     {
-        let order = Order::from_euler(euler);
-        forwards(
-            order.frame_static,
-            opposite(order.parity_even, self.angles(order, border)),
-        )
+        let order = Order::from(euler);
+        let (first, middle, last) = self.angles(order, border);
+        order.as_read((
+            order.signed(first),
+            order.signed(middle),
+            order.signed(last),
+        ))
     }
 
     // The angles of a matrix with normalised columns in the given order. Near the pole, where the middle angle is a quarter turn
@@ -82,18 +85,6 @@ impl DMat3 {
         self.check_axes()?;
         Ok(<DMat3 as ToEuler>::to_euler_angles(self, order))
     }
-}
-
-fn opposite(even: bool, t: (f64, f64, f64)) -> (f64, f64, f64)
-    ensures { result ≡ opposite even t }
-{
-    if even { (-t.0, -t.1, -t.2) } else { t }
-}
-
-fn forwards(fixed: bool, t: (f64, f64, f64)) -> (f64, f64, f64)
-    ensures { result ≡ forwards fixed t }
-{
-    if fixed { t } else { (t.2, t.1, t.0) }
 }
 
 impl ToEuler for DMat3 {

@@ -11,29 +11,9 @@ ghost use Rattle.quaternion.specs.Axes.{finite_fault, length_fault, axis_turn, a
 use crate::DQuat;
 use fault::{NumberFault, RotationFault};
 use numeric::{atan2_raw, check_angle, sin_cos_raw, sqrt};
-use vectors::{DVec2, DVec3};
+use vectors::{DVec2, DVec3, Vector};
 
 const LARGEST_ANGLE: f64 = 1000.0;
-
-fn check_finite(v: DVec3, argument: u8) -> Result<(), NumberFault>
-    ensures { result ≡ answer (finite_fault argument (V.parts v)) tt }
-{
-    if v.is_finite() {
-        Ok(())
-    } else {
-        Err(NumberFault::NotFinite(argument))
-    }
-}
-
-fn check_normalized(v: DVec3, argument: u8) -> Result<(), RotationFault>
-    ensures { result ≡ answer (length_fault argument (V.parts v)) tt }
-{
-    if v.is_normalized() {
-        Ok(())
-    } else {
-        Err(RotationFault::NotNormalized(argument))
-    }
-}
 
 // ---- an axis and an angle
 
@@ -41,7 +21,7 @@ fn axis_turn(axis: DVec3, angle: f64) -> DQuat
     ensures { parts result ≡ axis_turn (V.parts axis) angle }
 {
     let (s, c) = sin_cos_raw(angle * 0.5);
-    let v = axis.mul_scalar(s);
+    let v = axis * s;
     DQuat::from_xyzw(v.x, v.y, v.z, c)
 }
 
@@ -58,7 +38,7 @@ fn about_scaled(v: DVec3) -> DQuat
     ensures { parts result ≡ about_scaled (V.parts v) }
 {
     let length = v.length();
-    let axis = v.div_scalar(length);
+    let axis = v / length;
     if axis.is_normalized() {
         axis_turn(axis, length)
     } else {
@@ -66,6 +46,7 @@ fn about_scaled(v: DVec3) -> DQuat
     }
 }
 
+#[tactic(auto, unfolding(crate::specs::Axes::scaled_turn))]
 fn scaled_turn(v: DVec3) -> DQuat
     ensures { result ≡ scaled_turn (V.parts v) }
 {
@@ -82,6 +63,7 @@ fn at_most_1e100(q: DQuat) -> bool
     q.x.abs() <= 1e100 && q.y.abs() <= 1e100 && q.z.abs() <= 1e100 && q.w.abs() <= 1e100
 }
 
+#[tactic(auto, unfolding(crate::specs::Axes::axis_angle))]
 fn axis_angle(q: DQuat) -> (DVec3, f64)
     ensures { result ≡ axis_angle (parts q) }
 {
@@ -89,7 +71,7 @@ fn axis_angle(q: DQuat) -> (DVec3, f64)
     let length = v.length();
     if length >= 1.0e-8 {
         let angle = 2.0 * atan2_raw(length, q.w);
-        (v.div_scalar(length), angle)
+        (v / length, angle)
     } else {
         (DVec3::X, 0.0)
     }
@@ -100,9 +82,9 @@ impl DQuat {
     pub fn from_axis_angle(axis: DVec3, angle: f64) -> Result<DQuat, RotationFault>
         ensures { result ≡ answer (axis_fault (V.parts axis) angle) (whole (axis_turn (V.parts axis) angle)) }
     {
-        check_finite(axis, 0)?;
+        axis.check_finite(0)?;
         check_angle(1, angle)?;
-        check_normalized(axis, 0)?;
+        axis.check_normalized(0)?;
         Ok(axis_turn(axis, angle))
     }
 
@@ -110,9 +92,9 @@ impl DQuat {
     pub fn from_scaled_axis(v: DVec3) -> Result<DQuat, RotationFault>
         ensures { result ≡ answer (scaled_fault (V.parts v)) (scaled_turn (V.parts v)) }
     {
-        check_finite(v, 0)?;
+        v.check_finite(0)?;
         if !at_most_angle(v) {
-            return Err(RotationFault::Number(NumberFault::TooLarge(0)));
+            return Err(NumberFault::TooLarge(0).into());
         }
         Ok(scaled_turn(v))
     }
@@ -123,7 +105,7 @@ impl DQuat {
     {
         self.check_finite(0)?;
         if !at_most_1e100(self) {
-            return Err(RotationFault::Number(NumberFault::TooLarge(0)));
+            return Err(NumberFault::TooLarge(0).into());
         }
         Ok(axis_angle(self))
     }
@@ -133,7 +115,7 @@ impl DQuat {
         ensures { result ≡ answer (axis_angle_fault (parts self)) (scaled_axis (parts self)) }
     {
         let (axis, angle) = self.to_axis_angle()?;
-        Ok(axis.mul_scalar(angle))
+        Ok(axis * angle)
     }
 }
 
@@ -143,55 +125,32 @@ fn most_x(x: DVec3, y: DVec3, z: DVec3) -> DQuat
     ensures { parts result ≡ most_x (V.parts x) (V.parts y) (V.parts z) }
 {
     let four_xsq = (1.0 - z.z) - (y.y - x.x);
-    let inv4x = 0.5 / sqrt(four_xsq);
-    DQuat::from_xyzw(
-        four_xsq * inv4x,
-        (x.y + y.x) * inv4x,
-        (x.z + z.x) * inv4x,
-        (y.z - z.y) * inv4x,
-    )
+    DQuat::from_xyzw(four_xsq, x.y + y.x, x.z + z.x, y.z - z.y) * (0.5 / sqrt(four_xsq))
 }
 
 fn most_y(x: DVec3, y: DVec3, z: DVec3) -> DQuat
     ensures { parts result ≡ most_y (V.parts x) (V.parts y) (V.parts z) }
 {
     let four_ysq = (1.0 - z.z) + (y.y - x.x);
-    let inv4y = 0.5 / sqrt(four_ysq);
-    DQuat::from_xyzw(
-        (x.y + y.x) * inv4y,
-        four_ysq * inv4y,
-        (y.z + z.y) * inv4y,
-        (z.x - x.z) * inv4y,
-    )
+    DQuat::from_xyzw(x.y + y.x, four_ysq, y.z + z.y, z.x - x.z) * (0.5 / sqrt(four_ysq))
 }
 
 fn most_z(x: DVec3, y: DVec3, z: DVec3) -> DQuat
     ensures { parts result ≡ most_z (V.parts x) (V.parts y) (V.parts z) }
 {
     let four_zsq = (1.0 + z.z) - (y.y + x.x);
-    let inv4z = 0.5 / sqrt(four_zsq);
-    DQuat::from_xyzw(
-        (x.z + z.x) * inv4z,
-        (y.z + z.y) * inv4z,
-        four_zsq * inv4z,
-        (x.y - y.x) * inv4z,
-    )
+    DQuat::from_xyzw(x.z + z.x, y.z + z.y, four_zsq, x.y - y.x) * (0.5 / sqrt(four_zsq))
 }
 
 fn most_w(x: DVec3, y: DVec3, z: DVec3) -> DQuat
     ensures { parts result ≡ most_w (V.parts x) (V.parts y) (V.parts z) }
 {
     let four_wsq = (1.0 + z.z) + (y.y + x.x);
-    let inv4w = 0.5 / sqrt(four_wsq);
-    DQuat::from_xyzw(
-        (y.z - z.y) * inv4w,
-        (z.x - x.z) * inv4w,
-        (x.y - y.x) * inv4w,
-        four_wsq * inv4w,
-    )
+    DQuat::from_xyzw(y.z - z.y, z.x - x.z, x.y - y.x, four_wsq) * (0.5 / sqrt(four_wsq))
 }
 
 // By the largest of x², y², z² and w². After DirectXMath's XMQuaternionRotationMatrix.
+#[tactic(auto, unfolding(crate::specs::Axes::from_axes))]
 pub(crate) fn from_axes(x: DVec3, y: DVec3, z: DVec3) -> DQuat
     ensures { parts result ≡ from_axes (V.parts x) (V.parts y) (V.parts z) }
 {
@@ -217,12 +176,12 @@ impl DQuat {
     ) -> Result<DQuat, RotationFault>
         ensures { result ≡ answer (axes_fault (V.parts x_axis) (V.parts y_axis) (V.parts z_axis)) (whole (from_axes (V.parts x_axis) (V.parts y_axis) (V.parts z_axis))) }
     {
-        check_finite(x_axis, 0)?;
-        check_finite(y_axis, 1)?;
-        check_finite(z_axis, 2)?;
-        check_normalized(x_axis, 0)?;
-        check_normalized(y_axis, 1)?;
-        check_normalized(z_axis, 2)?;
+        x_axis.check_finite(0)?;
+        y_axis.check_finite(1)?;
+        z_axis.check_finite(2)?;
+        x_axis.check_normalized(0)?;
+        y_axis.check_normalized(1)?;
+        z_axis.check_normalized(2)?;
         Ok(from_axes(x_axis, y_axis, z_axis))
     }
 }
@@ -242,14 +201,16 @@ fn opposed(dot: f64, square: f64) -> bool
 }
 
 // Half a turn about an axis that is orthogonal to `from`.
+#[tactic(auto, unfolding(crate::specs::Axes::around))]
 fn around(from: DVec3) -> Result<DQuat, RotationFault>
     ensures { result ≡ around from }
 {
     let axis = from.orthonormal_raw();
-    check_normalized(axis, 0)?;
+    axis.check_normalized(0)?;
     Ok(axis_turn(axis, HALF_CIRCLE))
 }
 
+#[tactic(auto, unfolding(crate::specs::Axes::across_answer))]
 fn across(from: DVec3, to: DVec3) -> Result<DQuat, RotationFault>
     ensures { result ≡ across_answer (V.parts from) (V.parts to) }
 {
@@ -257,6 +218,7 @@ fn across(from: DVec3, to: DVec3) -> Result<DQuat, RotationFault>
     DQuat::from_xyzw(c.x, c.y, c.z, 1.0 + from.dot(to)).normalize()
 }
 
+#[tactic(auto, unfolding(crate::specs::Axes::arc_answer))]
 fn arc(from: DVec3, to: DVec3) -> Result<DQuat, RotationFault>
     ensures { result ≡ arc_answer from to }
 {
@@ -280,6 +242,7 @@ fn across2(from: DVec2, to: DVec2) -> DQuat
     DQuat::from_xyzw(0.0, 0.0, z * len_rcp, w * len_rcp)
 }
 
+#[tactic(auto, unfolding(crate::specs::Axes::arc2))]
 fn arc2(from: DVec2, to: DVec2) -> DQuat
     ensures { result ≡ arc2 from to }
 {
@@ -296,13 +259,14 @@ fn arc2(from: DVec2, to: DVec2) -> DQuat
 
 impl DQuat {
     // The minimal rotation for transforming `from` to `to`, which are to be normalised.
+    #[tactic(auto, unfolding(crate::specs::Axes::arc_to))]
     pub fn from_rotation_arc(from: DVec3, to: DVec3) -> Result<DQuat, RotationFault>
         ensures { result ≡ arc_to from to }
     {
-        check_finite(from, 0)?;
-        check_finite(to, 1)?;
-        check_normalized(from, 0)?;
-        check_normalized(to, 1)?;
+        from.check_finite(0)?;
+        to.check_finite(1)?;
+        from.check_normalized(0)?;
+        to.check_normalized(1)?;
         arc(from, to)
     }
 
@@ -311,7 +275,7 @@ impl DQuat {
         ensures { result ≡ colinear from to }
     {
         if from.dot(to) < 0.0 {
-            DQuat::from_rotation_arc(from, to.neg())
+            DQuat::from_rotation_arc(from, -to)
         } else {
             DQuat::from_rotation_arc(from, to)
         }
@@ -321,18 +285,10 @@ impl DQuat {
     pub fn from_rotation_arc_2d(from: DVec2, to: DVec2) -> Result<DQuat, RotationFault>
         ensures { result ≡ answer (arc_fault2 from to) (arc2 from to) }
     {
-        if !from.is_finite() {
-            return Err(RotationFault::Number(NumberFault::NotFinite(0)));
-        }
-        if !to.is_finite() {
-            return Err(RotationFault::Number(NumberFault::NotFinite(1)));
-        }
-        if !from.is_normalized() {
-            return Err(RotationFault::NotNormalized(0));
-        }
-        if !to.is_normalized() {
-            return Err(RotationFault::NotNormalized(1));
-        }
+        from.check_finite(0)?;
+        to.check_finite(1)?;
+        from.check_normalized(0)?;
+        to.check_normalized(1)?;
         Ok(arc2(from, to))
     }
 }

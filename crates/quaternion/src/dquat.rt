@@ -1,25 +1,26 @@
 // A quaternion representing an orientation. It is meant to be of length 1; products and roundings let it drift.
 ghost use Rattle.std.specs.Prelude.{◌≡◌, [], ◌∷◌, IfOk};
 ghost use Rattle.fault.specs.Answers.{answer};
-ghost use Rattle.std.specs.Float.{binary64};
-ghost use Rattle.std.specs.Float as Floats;
 ghost use Rattle.exact.specs.Quat.{product, dot, square, conjugate, plus, minus, scale};
 ghost use Rattle.exact.specs.Vector.{vector, rotated};
 ghost use Rattle.rounding.specs.Value.{floats};
 ghost use Rattle.vectors.specs.Vectors as V;
 ghost use Rattle.drift.specs.Tests.{unit_fault4, finite_fault4, length_fault4, turn_fault, image_fault, euler_fault};
-ghost use Rattle.numeric.specs.Floats.{minus_one, two};
+ghost use Rattle.numeric.specs.Floats.{zero, minus_one, two};
 ghost use Rattle.quaternion.specs.Quaternions.{quat, parts, whole, listed, four_fault, Wrote, near_identity, about_x, about_y, about_z};
 ghost use Rattle.quaternion.specs.Euler.{from_euler};
 ghost use Rattle.exact.specs.Turn as Turn;
+ghost use Rattle.euler.specs.Orders.{letter};
+ghost use Rattle.drift.specs.Turns as Floats;
 ghost use Rattle.numeric.specs.Laws.{Angle};
 ghost use Rattle.drift.specs.Laws.{Ample, Normalised, IsProduct, Turned, turned, IsTurn, Kept, Sound, Units, IsImage, Gives};
 ghost use Rattle.quaternion.specs.EulerLaws.{IsEulerTurn};
 
-use euler::{EulerRot, FromEuler};
-use fault::{NumberFault, RotationFault};
+use euler::{Axis, EulerRot, FromEuler};
+use fault::RotationFault;
 use numeric::{check_angle, sin_cos_raw};
-use vectors::{DVec3, DVec4};
+use std::ops::{Add, Div, Mul, Neg, Sub};
+use vectors::{DVec3, DVec4, Vector};
 
 #[derive(Clone, Copy, PartialEq, Debug)]
 pub struct DQuat {
@@ -54,12 +55,6 @@ impl DQuat {
         ensures { parts result ≡ V.parts4 v }
     {
         DQuat::from_xyzw(v.x, v.y, v.z, v.w)
-    }
-
-    pub fn to_vec4(self) -> DVec4
-        ensures { V.parts4 result ≡ parts self }
-    {
-        DVec4::new(self.x, self.y, self.z, self.w)
     }
 
     // From the first four numbers of a slice.
@@ -97,9 +92,7 @@ impl DQuat {
         ensures value { result ≡ answer (turn_fault angle) (about_x angle) }
         ensures turn { Angle angle → Gives (λ q. IsTurn Turn.X angle (parts q)) result }
     {
-        check_angle(0, angle)?;
-        let (s, c) = sin_cos_raw(angle * 0.5);
-        Ok(DQuat::from_xyzw(s, 0.0, 0.0, c))
+        about(Axis::X, angle)
     }
 
     // The turn about the y axis by `angle` in radians.
@@ -107,9 +100,7 @@ impl DQuat {
         ensures value { result ≡ answer (turn_fault angle) (about_y angle) }
         ensures turn { Angle angle → Gives (λ q. IsTurn Turn.Y angle (parts q)) result }
     {
-        check_angle(0, angle)?;
-        let (s, c) = sin_cos_raw(angle * 0.5);
-        Ok(DQuat::from_xyzw(0.0, s, 0.0, c))
+        about(Axis::Y, angle)
     }
 
     // The turn about the z axis by `angle` in radians.
@@ -117,9 +108,7 @@ impl DQuat {
         ensures value { result ≡ answer (turn_fault angle) (about_z angle) }
         ensures turn { Angle angle → Gives (λ q. IsTurn Turn.Z angle (parts q)) result }
     {
-        check_angle(0, angle)?;
-        let (s, c) = sin_cos_raw(angle * 0.5);
-        Ok(DQuat::from_xyzw(0.0, 0.0, s, c))
+        about(Axis::Z, angle)
     }
 
     // The turn of an Euler order by three angles in radians.
@@ -158,62 +147,13 @@ impl DQuat {
         Ok(self.conjugate())
     }
 
-    // The dot product of `self` and `rhs`: the cosine of the angle between two rotations' quaternions.
-    pub fn dot(self, rhs: DQuat) -> f64
-        ensures { result ≡ dot floats (parts self) (parts rhs) }
-    {
-        (self.x * rhs.x) + (self.y * rhs.y) + (self.z * rhs.z) + (self.w * rhs.w)
-    }
-
-    // The squared length of `self`.
-    pub fn length_squared(self) -> f64
-        ensures { result ≡ square floats (parts self) }
-    {
-        self.dot(self)
-    }
-
-    // The length of `self`.
-    pub fn length(self) -> f64
-        ensures { result ≡ Floats.sqrt binary64 (square floats (parts self)) }
-    {
-        self.to_vec4().length()
-    }
-
-    // `1.0 / length()`.
-    pub fn length_recip(self) -> f64
-        ensures { result ≡ V.recip (square floats (parts self)) }
-    {
-        self.to_vec4().length_recip()
-    }
-
     // `self` normalised to length 1.
     pub fn normalize(self) -> Result<DQuat, RotationFault>
         ensures value { result ≡ answer (V.normal_fault (parts self)) (whole (V.normal (parts self))) }
         ensures unit { Ample (parts self) → Gives (λ n. Normalised (parts self) (parts n)) result }
     {
-        let v = self.to_vec4().normalize()?;
+        let v = DVec4::from(self).normalize()?;
         Ok(DQuat::from_vec4(v))
-    }
-
-    // Whether every component is finite.
-    pub fn is_finite(self) -> bool
-        ensures { result ≡ V.finite4 (parts self) }
-    {
-        self.to_vec4().is_finite()
-    }
-
-    // Whether some component is no number.
-    pub fn is_nan(self) -> bool
-        ensures { result ≡ V.nan4 (parts self) }
-    {
-        self.to_vec4().is_nan()
-    }
-
-    // Whether the squared length is within 2e-4 of 1.
-    pub fn is_normalized(self) -> bool
-        ensures { result ≡ V.unit (square floats (parts self)) }
-    {
-        self.to_vec4().is_normalized()
     }
 
     // Whether the scalar part is so near to 1 in size that the rotation is hardly one.
@@ -227,7 +167,7 @@ impl DQuat {
     pub fn abs_diff_eq(self, rhs: DQuat, max_abs_diff: f64) -> bool
         ensures { result ≡ V.close4 (parts self) (parts rhs) max_abs_diff }
     {
-        self.to_vec4().abs_diff_eq(rhs.to_vec4(), max_abs_diff)
+        DVec4::from(self).abs_diff_eq(DVec4::from(rhs), max_abs_diff)
     }
 
     // The rotation `rhs` followed by `self`.
@@ -269,75 +209,122 @@ impl DQuat {
         ensures near { Kept (parts self) → Units (V.parts rhs) → Gives (λ v. IsImage (parts self) (V.parts rhs) (V.parts v)) result }
     {
         self.check_finite(0)?;
-        if !rhs.is_finite() {
-            return Err(RotationFault::Number(NumberFault::NotFinite(1)));
-        }
+        rhs.check_finite(1)?;
         self.check_normalized(0)?;
         let w = self.w;
         let b = self.xyz();
         let b2 = b.dot(b);
-        Ok(
-            rhs.mul_scalar(w * w - b2)
-                .add(b.mul_scalar(rhs.dot(b) * 2.0))
-                .add(b.cross(rhs).mul_scalar(w * 2.0)),
-        )
-    }
-
-    // The original's `self + rhs`. The sum is not guaranteed to be normalised.
-    pub fn add(self, rhs: DQuat) -> DQuat
-        ensures { parts result ≡ plus floats (parts self) (parts rhs) }
-    {
-        DQuat::from_vec4(self.to_vec4().add(rhs.to_vec4()))
-    }
-
-    // The original's `self - rhs`.
-    pub fn sub(self, rhs: DQuat) -> DQuat
-        ensures { parts result ≡ minus floats (parts self) (parts rhs) }
-    {
-        DQuat::from_vec4(self.to_vec4().sub(rhs.to_vec4()))
-    }
-
-    // The original's `self * rhs` with a number.
-    pub fn mul_scalar(self, rhs: f64) -> DQuat
-        ensures { parts result ≡ scale floats (parts self) rhs }
-    {
-        DQuat::from_vec4(self.to_vec4().mul_scalar(rhs))
-    }
-
-    // The original's `self / rhs` with a number.
-    pub fn div_scalar(self, rhs: f64) -> DQuat
-        ensures { parts result ≡ V.over4 (parts self) rhs }
-    {
-        DQuat::from_vec4(self.to_vec4().div_scalar(rhs))
-    }
-
-    // The original's `-self`.
-    pub fn neg(self) -> DQuat
-        ensures { parts result ≡ scale floats (parts self) minus_one }
-    {
-        self.mul_scalar(-1.0)
+        Ok(rhs * (w * w - b2) + b * (rhs.dot(b) * 2.0) + b.cross(rhs) * (w * 2.0))
     }
 }
 
-// What turns a quaternion away, as an argument of a call.
-impl DQuat {
-    pub(crate) fn check_finite(self, argument: u8) -> Result<(), NumberFault>
-        ensures { result ≡ answer (finite_fault4 argument (parts self)) tt }
-    {
-        if self.is_finite() {
-            Ok(())
-        } else {
-            Err(NumberFault::NotFinite(argument))
-        }
+// The sine and the cosine of half an angle, as the turn about an axis.
+fn along(axis: Axis, s: f64, c: f64) -> DQuat
+    ensures { parts result ≡ Turn.along zero (letter axis) s c }
+{
+    match axis {
+        Axis::X => DQuat::from_xyzw(s, 0.0, 0.0, c),
+        Axis::Y => DQuat::from_xyzw(0.0, s, 0.0, c),
+        Axis::Z => DQuat::from_xyzw(0.0, 0.0, s, c),
+    }
+}
+
+// The turn about an axis by an angle, which is the call's first argument.
+fn about(axis: Axis, angle: f64) -> Result<DQuat, RotationFault>
+    ensures value { result ≡ answer (turn_fault angle) (whole (Floats.about (letter axis) angle)) }
+    ensures turn { Angle angle → Gives (λ q. IsTurn (letter axis) angle (parts q)) result }
+{
+    check_angle(0, angle)?;
+    let (s, c) = sin_cos_raw(angle * 0.5);
+    Ok(along(axis, s, c))
+}
+
+impl From<DQuat> for DVec4 {
+    ghost from_gives = { λ q v. V.parts4 v ≡ parts q };
+
+    fn from(q: DQuat) -> DVec4 {
+        DVec4::new(q.x, q.y, q.z, q.w)
+    }
+}
+
+impl Vector for DQuat {
+    ghost inner = { λ p q. dot floats (parts p) (parts q) };
+
+    ghost finite = { λ q. V.finite4 (parts q) };
+
+    ghost some_nan = { λ q. V.nan4 (parts q) };
+
+    // The cosine of the angle between two rotations' quaternions.
+    fn dot(self, rhs: DQuat) -> f64 {
+        DVec4::from(self).dot(DVec4::from(rhs))
     }
 
-    pub(crate) fn check_normalized(self, argument: u8) -> Result<(), RotationFault>
-        ensures { result ≡ answer (length_fault4 argument (parts self)) tt }
-    {
-        if self.is_normalized() {
-            Ok(())
-        } else {
-            Err(RotationFault::NotNormalized(argument))
-        }
+    fn is_finite(self) -> bool {
+        DVec4::from(self).is_finite()
+    }
+
+    fn is_nan(self) -> bool {
+        DVec4::from(self).is_nan()
+    }
+}
+
+// The sum is not guaranteed to be normalised.
+impl Add for DQuat {
+    type Output = DQuat;
+
+    ghost add_gives = { λ p q r. parts r ≡ plus floats (parts p) (parts q) };
+
+    fn add(self, rhs: DQuat) -> DQuat {
+        DQuat::from_vec4(DVec4::from(self) + DVec4::from(rhs))
+    }
+}
+
+impl Sub for DQuat {
+    type Output = DQuat;
+
+    ghost sub_gives = { λ p q r. parts r ≡ minus floats (parts p) (parts q) };
+
+    fn sub(self, rhs: DQuat) -> DQuat {
+        DQuat::from_vec4(DVec4::from(self) - DVec4::from(rhs))
+    }
+}
+
+impl Mul for DQuat {
+    type Output = DQuat;
+
+    ghost mul_gives = { λ p q r. parts r ≡ product floats (parts p) (parts q) };
+
+    fn mul(self, rhs: DQuat) -> DQuat {
+        DQuat::mul_quat(self, rhs)
+    }
+}
+
+impl Mul<f64> for DQuat {
+    type Output = DQuat;
+
+    ghost mul_gives = { λ q s r. parts r ≡ scale floats (parts q) s };
+
+    fn mul(self, rhs: f64) -> DQuat {
+        DQuat::from_vec4(DVec4::from(self) * rhs)
+    }
+}
+
+impl Div<f64> for DQuat {
+    type Output = DQuat;
+
+    ghost div_gives = { λ q s r. parts r ≡ V.over4 (parts q) s };
+
+    fn div(self, rhs: f64) -> DQuat {
+        DQuat::from_vec4(DVec4::from(self) / rhs)
+    }
+}
+
+impl Neg for DQuat {
+    type Output = DQuat;
+
+    ghost neg_gives = { λ q r. parts r ≡ scale floats (parts q) minus_one };
+
+    fn neg(self) -> DQuat {
+        self * -1.0
     }
 }

@@ -3,7 +3,7 @@ ghost use Rattle.std.specs.Prelude.{◌≡◌};
 ghost use Rattle.rounding.specs.Value.{floats};
 ghost use Rattle.quaternion.specs.Quaternions.{parts};
 ghost use Rattle.drift.specs.Tests.{euler_fault};
-ghost use Rattle.drift.specs.Turns.{by_order, angle, parity, signed, assembled};
+ghost use Rattle.drift.specs.Turns.{by_order, angle, parity, assembled};
 ghost use Rattle.quaternion.specs.Euler.{from_euler};
 
 use crate::DQuat;
@@ -39,22 +39,16 @@ fn from_halves(order: Order, first: (f64, f64), middle: (f64, f64), last: (f64, 
     DQuat::from_array(a)
 }
 
-fn signed(even: bool, angle: f64) -> f64
-    ensures { result ≡ signed even angle }
-{
-    if even { -angle } else { angle }
-}
-
 // With Ex the angles are read backwards; the middle one is taken at the opposite where the parity is even.
+#[tactic(auto, using(euler::proofs::Angles::each_read), unfolding(drift::specs::Turns::by_order))]
 fn by_order(order: Order, x: f64, y: f64, z: f64) -> DQuat
     ensures { parts result ≡ by_order order x y z }
 {
-    let (first, last) = if order.frame_static { (x, z) } else { (z, x) };
-    let middle = signed(order.parity_even, y);
+    let (first, middle, last) = order.as_read((x, y, z));
     from_halves(
         order,
         sin_cos_raw(first * 0.5),
-        sin_cos_raw(middle * 0.5),
+        sin_cos_raw(order.signed(middle) * 0.5),
         sin_cos_raw(last * 0.5),
     )
 }
@@ -66,10 +60,11 @@ impl FromEuler for DQuat {
 
     ghost rotation = { λ n x y z. from_euler n x y z };
 
+    #[tactic(auto, unfolding(crate::specs::Euler::from_euler))]
     fn from_euler_angles(euler: EulerRot, x: f64, y: f64, z: f64) -> Result<DQuat, RotationFault> {
         check_angle(1, x)?;
         check_angle(2, y)?;
         check_angle(3, z)?;
-        Ok(by_order(Order::from_euler(euler), x, y, z))
+        Ok(by_order(Order::from(euler), x, y, z))
     }
 }

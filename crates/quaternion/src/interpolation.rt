@@ -7,6 +7,7 @@ ghost use Rattle.quaternion.specs.Interpolation.{pair_fault, share_fault, betwee
 use crate::DQuat;
 use fault::{NumberFault, RotationFault};
 use numeric::{acos_raw, check_angle, check_number, sin_cos_raw};
+use vectors::Vector;
 
 // A share of more than 300 in size is refused: the angles that it makes stay below 1000.
 const LARGEST_SHARE: f64 = 300.0;
@@ -67,6 +68,7 @@ impl DQuat {
         self.towards(rhs, max_angle)
     }
 
+    #[tactic(auto, unfolding(crate::specs::Interpolation::towards_answer))]
     fn towards(self, rhs: DQuat, max_angle: f64) -> Result<DQuat, RotationFault>
         ensures { result ≡ towards_answer (parts self) (parts rhs) max_angle }
     {
@@ -79,10 +81,11 @@ impl DQuat {
     }
 
     // The mean of `self` and `end`, weighted by 1 - s and s, and normalised.
+    #[tactic(auto, unfolding(crate::specs::Interpolation::mixed_answer))]
     fn lerp_impl(self, end: DQuat, s: f64) -> Result<DQuat, RotationFault>
         ensures { result ≡ mixed_answer (parts self) (parts end) s }
     {
-        self.mul_scalar(1.0 - s).add(end.mul_scalar(s)).normalize()
+        (self * (1.0 - s) + end * s).normalize()
     }
 
     // Linear interpolation between `self` and `end` by the share `s`.
@@ -93,13 +96,15 @@ impl DQuat {
         self.lerp_raw(end, s)
     }
 
+    #[tactic(auto, unfolding(crate::specs::Interpolation::lerp_answer))]
     fn lerp_raw(self, end: DQuat, s: f64) -> Result<DQuat, RotationFault>
         ensures { result ≡ lerp_answer (parts self) (parts end) s }
     {
         let bias = if self.dot(end) >= 0.0 { 1.0 } else { -1.0 };
-        self.lerp_impl(end.mul_scalar(bias), s)
+        self.lerp_impl(end * bias, s)
     }
 
+    #[tactic(auto, unfolding(crate::specs::Interpolation::swept))]
     fn slerp_impl(self, end: DQuat, dot: f64, s: f64) -> DQuat
         ensures { parts result ≡ swept (parts self) (parts end) dot s }
     {
@@ -107,9 +112,7 @@ impl DQuat {
         let scale1 = sin_cos_raw(theta * (1.0 - s)).0;
         let scale2 = sin_cos_raw(theta * s).0;
         let theta_sin = sin_cos_raw(theta).0;
-        self.mul_scalar(scale1)
-            .add(end.mul_scalar(scale2))
-            .mul_scalar(1.0 / theta_sin)
+        (self * scale1 + end * scale2) * (1.0 / theta_sin)
     }
 
     // Spherical interpolation between `self` and `end` by the share `s`, along the shorter way.
@@ -120,12 +123,13 @@ impl DQuat {
         self.slerp_raw(end, s)
     }
 
+    #[tactic(auto, unfolding(crate::specs::Interpolation::slerp_answer))]
     fn slerp_raw(self, end: DQuat, s: f64) -> Result<DQuat, RotationFault>
         ensures { result ≡ slerp_answer (parts self) (parts end) s }
     {
         let dot = self.dot(end);
         if dot < 0.0 {
-            self.sweep(end.neg(), -dot, s, nearer(-dot))
+            self.sweep(-end, -dot, s, nearer(-dot))
         } else {
             self.sweep(end, dot, s, nearer(dot))
         }
@@ -139,6 +143,7 @@ impl DQuat {
         self.slerp_long_raw(end, s)
     }
 
+    #[tactic(auto, unfolding(crate::specs::Interpolation::slerp_long_answer))]
     fn slerp_long_raw(self, end: DQuat, s: f64) -> Result<DQuat, RotationFault>
         ensures { result ≡ slerp_long_answer (parts self) (parts end) s }
     {

@@ -12,7 +12,7 @@ use crate::axes::from_axes;
 use euler::{EulerRot, ToEuler};
 use fault::RotationFault;
 use matrix::DMat3;
-use vectors::DVec3;
+use vectors::{DVec3, Vector};
 
 // What a quaternion makes: the original's `DMat3::from_quat`.
 pub trait FromQuat: Sized {
@@ -23,6 +23,7 @@ pub trait FromQuat: Sized {
 }
 
 // The images of X, Y and Z.
+#[tactic(auto, unfolding(crate::specs::Matrices::to_matrix))]
 fn to_matrix(rotation: DQuat) -> DMat3
     ensures { result ≡ to_matrix rotation }
 {

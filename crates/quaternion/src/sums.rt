@@ -9,21 +9,14 @@ impl DQuat {
     pub fn sum(quats: &[DQuat]) -> DQuat
         ensures { result ≡ summed quats.now }
     {
-        let mut total = DQuat::from_xyzw(0.0, 0.0, 0.0, 0.0);
-        for i in 0..quats.len() {
-            total = total.add(quats[i]);
-        }
-        total
+        let zero = DQuat::from_xyzw(0.0, 0.0, 0.0, 0.0);
+        quats.iter().fold(zero, |total, &q| total + q)
     }
 
     // The product of all; the identity where there is none.
     pub fn product(quats: &[DQuat]) -> DQuat
         ensures { result ≡ multiplied quats.now }
     {
-        let mut total = DQuat::IDENTITY;
-        for i in 0..quats.len() {
-            total = total.mul_quat(quats[i]);
-        }
-        total
+        quats.iter().fold(DQuat::IDENTITY, |total, &q| total * q)
     }
 }

@@ -92,6 +92,7 @@ impl DVec4 {
     }
 
     // `self` normalised to length 1.
+    #[tactic(auto, unfolding(crate::specs::Vectors::normal))]
     pub fn normalize(self) -> Result<DVec4, RotationFault>
         ensures { result ≡ answer (normal_fault (parts4 self)) (vector4 (normal (parts4 self))) }
     {
