@@ -77,15 +77,10 @@ impl DMat3 {
         ensures { result ≡ answer (axes_fault self) tt }
     {
         if !self.is_finite() {
-            return Err(RotationFault::Number(NumberFault::NotFinite(0)));
+            return Err(NumberFault::NotFinite(0).into());
         }
-        if self.x_axis.is_normalized()
-            && self.y_axis.is_normalized()
-            && self.z_axis.is_normalized()
-        {
-            Ok(())
-        } else {
-            Err(RotationFault::NotNormalized(0))
-        }
+        self.x_axis.check_normalized(0)?;
+        self.y_axis.check_normalized(0)?;
+        self.z_axis.check_normalized(0)
     }
 }

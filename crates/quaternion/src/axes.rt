@@ -10,8 +10,9 @@ ghost use Rattle.quaternion.specs.Axes.{finite_fault, length_fault, axis_turn, a
 
 use crate::DQuat;
 use fault::{NumberFault, RotationFault};
+use matrix::DMat3;
 use numeric::{atan2_raw, check_angle, sin_cos_raw, sqrt};
-use vectors::{DVec2, DVec3, Vector};
+use vectors::{DVec2, DVec3, DVec4, Vector};
 
 const LARGEST_ANGLE: f64 = 1000.0;
 
@@ -60,7 +61,7 @@ fn scaled_turn(v: DVec3) -> DQuat
 fn at_most_1e100(q: DQuat) -> bool
     ensures { result ≡ at_most_1e100 (parts q) }
 {
-    q.x.abs() <= 1e100 && q.y.abs() <= 1e100 && q.z.abs() <= 1e100 && q.w.abs() <= 1e100
+    DVec4::from(q).abs().cmple(DVec4::splat(1e100)).all()
 }
 
 #[tactic(auto, unfolding(crate::specs::Axes::axis_angle))]
@@ -121,49 +122,69 @@ impl DQuat {
 
 // ---- three axes
 
-fn most_x(x: DVec3, y: DVec3, z: DVec3) -> DQuat
-    ensures { parts result ≡ most_x (V.parts x) (V.parts y) (V.parts z) }
+fn most_x(m: DMat3) -> DQuat
+    ensures { parts result ≡ most_x (V.parts m.x_axis) (V.parts m.y_axis) (V.parts m.z_axis) }
 {
+    let DMat3 {
+        x_axis: x,
+        y_axis: y,
+        z_axis: z,
+    } = m;
     let four_xsq = (1.0 - z.z) - (y.y - x.x);
     DQuat::from_xyzw(four_xsq, x.y + y.x, x.z + z.x, y.z - z.y) * (0.5 / sqrt(four_xsq))
 }
 
-fn most_y(x: DVec3, y: DVec3, z: DVec3) -> DQuat
-    ensures { parts result ≡ most_y (V.parts x) (V.parts y) (V.parts z) }
+fn most_y(m: DMat3) -> DQuat
+    ensures { parts result ≡ most_y (V.parts m.x_axis) (V.parts m.y_axis) (V.parts m.z_axis) }
 {
+    let DMat3 {
+        x_axis: x,
+        y_axis: y,
+        z_axis: z,
+    } = m;
     let four_ysq = (1.0 - z.z) + (y.y - x.x);
     DQuat::from_xyzw(x.y + y.x, four_ysq, y.z + z.y, z.x - x.z) * (0.5 / sqrt(four_ysq))
 }
 
-fn most_z(x: DVec3, y: DVec3, z: DVec3) -> DQuat
-    ensures { parts result ≡ most_z (V.parts x) (V.parts y) (V.parts z) }
+fn most_z(m: DMat3) -> DQuat
+    ensures { parts result ≡ most_z (V.parts m.x_axis) (V.parts m.y_axis) (V.parts m.z_axis) }
 {
+    let DMat3 {
+        x_axis: x,
+        y_axis: y,
+        z_axis: z,
+    } = m;
     let four_zsq = (1.0 + z.z) - (y.y + x.x);
     DQuat::from_xyzw(x.z + z.x, y.z + z.y, four_zsq, x.y - y.x) * (0.5 / sqrt(four_zsq))
 }
 
-fn most_w(x: DVec3, y: DVec3, z: DVec3) -> DQuat
-    ensures { parts result ≡ most_w (V.parts x) (V.parts y) (V.parts z) }
+fn most_w(m: DMat3) -> DQuat
+    ensures { parts result ≡ most_w (V.parts m.x_axis) (V.parts m.y_axis) (V.parts m.z_axis) }
 {
+    let DMat3 {
+        x_axis: x,
+        y_axis: y,
+        z_axis: z,
+    } = m;
     let four_wsq = (1.0 + z.z) + (y.y + x.x);
     DQuat::from_xyzw(y.z - z.y, z.x - x.z, x.y - y.x, four_wsq) * (0.5 / sqrt(four_wsq))
 }
 
 // By the largest of x², y², z² and w². After DirectXMath's XMQuaternionRotationMatrix.
 #[tactic(auto, unfolding(crate::specs::Axes::from_axes))]
-pub(crate) fn from_axes(x: DVec3, y: DVec3, z: DVec3) -> DQuat
-    ensures { parts result ≡ from_axes (V.parts x) (V.parts y) (V.parts z) }
+pub(crate) fn from_axes(m: DMat3) -> DQuat
+    ensures { parts result ≡ from_axes (V.parts m.x_axis) (V.parts m.y_axis) (V.parts m.z_axis) }
 {
-    if z.z <= 0.0 {
-        if y.y - x.x <= 0.0 {
-            most_x(x, y, z)
+    if m.z_axis.z <= 0.0 {
+        if m.y_axis.y - m.x_axis.x <= 0.0 {
+            most_x(m)
         } else {
-            most_y(x, y, z)
+            most_y(m)
         }
-    } else if y.y + x.x <= 0.0 {
-        most_z(x, y, z)
+    } else if m.y_axis.y + m.x_axis.x <= 0.0 {
+        most_z(m)
     } else {
-        most_w(x, y, z)
+        most_w(m)
     }
 }
 
@@ -182,7 +203,7 @@ impl DQuat {
         x_axis.check_normalized(0)?;
         y_axis.check_normalized(1)?;
         z_axis.check_normalized(2)?;
-        Ok(from_axes(x_axis, y_axis, z_axis))
+        Ok(from_axes(DMat3::from_cols(x_axis, y_axis, z_axis)))
     }
 }
 

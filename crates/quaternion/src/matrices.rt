@@ -62,7 +62,7 @@ impl DQuat {
         ensures { result ≡ answer (axes_fault mat) (of_matrix mat) }
     {
         mat.check_axes()?;
-        Ok(from_axes(mat.x_axis, mat.y_axis, mat.z_axis))
+        Ok(from_axes(mat))
     }
 
     // The angles of `self`, which is to be normalised, in the given order.
