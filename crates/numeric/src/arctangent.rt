@@ -9,15 +9,13 @@ ghost use Rattle.numeric.specs.ArcTangent.{atan_kernel, atan_near, atan_unit, an
 ghost use Rattle.numeric.specs.Laws.{IsAngle, IsArcCosine, RootExample};
 
 use crate::checks::check_number;
+use crate::horner::{TINY, odd_polynomial};
 use fault::NumberFault;
 
 // P/2 and P, the nearest f64
 const QUARTER_TURN: f64 = 1.5707963267948966;
 
 const HALF_TURN: f64 = 3.141592653589793;
-
-// 2^-27: the cube of what is smaller is lost beside it
-const TINY: f64 = 7.450580596923828e-9;
 
 // The root of any f64, rounded once to the nearest.
 pub fn sqrt(v: f64) -> f64
@@ -26,19 +24,21 @@ pub fn sqrt(v: f64) -> f64
     v.sqrt()
 }
 
+// 1/13 to 1/3, the innermost first
+const ODD_PARTS: [f64; 6] = [
+    0.07692307692307693, // 1/13
+    0.09090909090909091, // 1/11
+    0.1111111111111111,  // 1/9
+    0.14285714285714285, // 1/7
+    0.2,                 // 1/5
+    0.3333333333333333,  // 1/3
+];
+
 // u − u³/3 + … − u¹⁵/15
 fn atan_kernel(u: f64) -> f64
     ensures { result ≡ atan_kernel u }
 {
-    let z = u * u;
-    let h = 0.06666666666666667; // 1/15
-    let h = 0.07692307692307693 - z * h; // 1/13
-    let h = 0.09090909090909091 - z * h; // 1/11
-    let h = 0.1111111111111111 - z * h; // 1/9
-    let h = 0.14285714285714285 - z * h; // 1/7
-    let h = 0.2 - z * h; // 1/5
-    let h = 0.3333333333333333 - z * h; // 1/3
-    u - u * (z * h)
+    odd_polynomial(u, 0.06666666666666667, &ODD_PARTS) // 1/15
 }
 
 // The arc tangent of a q near b, whose own is a.

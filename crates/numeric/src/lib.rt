@@ -3,6 +3,7 @@
 
 mod arctangent;
 mod checks;
+mod horner;
 mod sine;
 
 pub use arctangent::{acos_approx, acos_raw, atan2, atan2_raw, root_example_stands, sqrt};

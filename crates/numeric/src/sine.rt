@@ -6,6 +6,7 @@ ghost use Rattle.numeric.specs.Sine.{sin_kernel, cos_kernel, quarter_turns, rema
 ghost use Rattle.numeric.specs.Laws.{Angle, IsSine, IsCosine};
 
 use crate::checks::check_angle;
+use crate::horner::{TINY, horner, odd_polynomial};
 use fault::NumberFault;
 use std::num::saturating_f64_to_u32;
 
@@ -17,38 +18,40 @@ const QUARTER_HIGH: f64 = 1.5707963267341256;
 
 const QUARTER_LOW: f64 = 6.077100506506192e-11;
 
-// 2^-27: the cube of what is smaller is lost beside it
-const TINY: f64 = 7.450580596923828e-9;
+// 1/13! to 1/3!, the innermost first
+const ODD_INVERSES: [f64; 6] = [
+    1.6059043836821613e-10, // 1/13!
+    2.505210838544172e-08,  // 1/11!
+    2.7557319223985893e-06, // 1/9!
+    0.0001984126984126984,  // 1/7!
+    0.008333333333333333,   // 1/5!
+    0.16666666666666666,    // 1/3!
+];
+
+// 1/14! to 1/0!, the innermost first
+const EVEN_INVERSES: [f64; 8] = [
+    1.1470745597729725e-11, // 1/14!
+    2.08767569878681e-09,   // 1/12!
+    2.755731922398589e-07,  // 1/10!
+    2.48015873015873e-05,   // 1/8!
+    0.001388888888888889,   // 1/6!
+    0.041666666666666664,   // 1/4!
+    0.5,                    // 1/2!
+    1.0,
+];
 
 // r − r³/3! + … − r¹⁵/15!
 fn sin_kernel(r: f64) -> f64
     ensures { result ≡ sin_kernel r }
 {
-    let z = r * r;
-    let h = 7.647163731819816e-13; // 1/15!
-    let h = 1.6059043836821613e-10 - z * h; // 1/13!
-    let h = 2.505210838544172e-08 - z * h; // 1/11!
-    let h = 2.7557319223985893e-06 - z * h; // 1/9!
-    let h = 0.0001984126984126984 - z * h; // 1/7!
-    let h = 0.008333333333333333 - z * h; // 1/5!
-    let h = 0.16666666666666666 - z * h; // 1/3!
-    r - r * (z * h)
+    odd_polynomial(r, 7.647163731819816e-13, &ODD_INVERSES) // 1/15!
 }
 
 // 1 − r²/2! + … + r¹⁶/16!
 fn cos_kernel(r: f64) -> f64
     ensures { result ≡ cos_kernel r }
 {
-    let z = r * r;
-    let h = 4.779477332387385e-14; // 1/16!
-    let h = 1.1470745597729725e-11 - z * h; // 1/14!
-    let h = 2.08767569878681e-09 - z * h; // 1/12!
-    let h = 2.755731922398589e-07 - z * h; // 1/10!
-    let h = 2.48015873015873e-05 - z * h; // 1/8!
-    let h = 0.001388888888888889 - z * h; // 1/6!
-    let h = 0.041666666666666664 - z * h; // 1/4!
-    let h = 0.5 - z * h; // 1/2!
-    1.0 - z * h
+    horner(r * r, 4.779477332387385e-14, &EVEN_INVERSES) // 1/16!
 }
 
 // The quarter turns of an angle that is not negative: the nearest number of them, or its neighbour.
