@@ -11,11 +11,7 @@ ghost use Rattle.numeric.specs.Laws.{IsAngle, IsArcCosine, RootExample};
 use crate::checks::check_number;
 use crate::horner::{TINY, odd_polynomial};
 use fault::NumberFault;
-
-// P/2 and P, the nearest f64
-const QUARTER_TURN: f64 = 1.5707963267948966;
-
-const HALF_TURN: f64 = 3.141592653589793;
+use std::f64::consts::{FRAC_PI_2, FRAC_PI_4, PI};
 
 // The root of any f64, rounded once to the nearest.
 pub fn sqrt(v: f64) -> f64
@@ -63,7 +59,7 @@ fn atan_unit(q: f64) -> f64
     } else if q < 0.875 {
         atan_near(q, 0.75, 0.6435011087932844)
     } else {
-        atan_near(q, 1.0, 0.7853981633974483)
+        atan_near(q, 1.0, FRAC_PI_4)
     }
 }
 
@@ -73,14 +69,14 @@ fn angle_up(y: f64, x: f64) -> f64
 {
     if x < 0.0 {
         if y <= -x {
-            HALF_TURN - atan_unit(y / -x)
+            PI - atan_unit(y / -x)
         } else {
-            QUARTER_TURN + atan_unit(-x / y)
+            FRAC_PI_2 + atan_unit(-x / y)
         }
     } else if y <= x {
         if 0.0 < x { atan_unit(y / x) } else { 0.0 }
     } else {
-        QUARTER_TURN - atan_unit(x / y)
+        FRAC_PI_2 - atan_unit(x / y)
     }
 }
 

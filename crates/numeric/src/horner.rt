@@ -5,17 +5,17 @@ ghost use Rattle.numeric.specs.Floats.{◌⊖◌, ◌⊗◌};
 // 2^-27: the cube of what is smaller is lost beside it
 pub(crate) const TINY: f64 = 7.450580596923828e-9;
 
-// From the inside: `h`, and each term of `terms` less z times what stands so far.
-pub(crate) fn horner(z: f64, h: f64, terms: &[f64]) -> f64
-    ensures { result ≡ fold (λ h c. c ⊖ z ⊗ h) h terms.now }
+// From the inside: the innermost coefficient, and then each of `outwards` less z times what stands so far.
+pub(crate) fn horner(z: f64, innermost: f64, outwards: &[f64]) -> f64
+    ensures { result ≡ fold (λ h c. c ⊖ z ⊗ h) innermost outwards.now }
 {
-    terms.iter().fold(h, |h, c| *c - z * h)
+    outwards.iter().fold(innermost, |h, c| *c - z * h)
 }
 
-// r less r times the polynomial of z = r², times z.
-pub(crate) fn odd_polynomial(r: f64, h: f64, terms: &[f64]) -> f64
-    ensures { result ≡ r ⊖ r ⊗ (r ⊗ r ⊗ fold (λ h c. c ⊖ r ⊗ r ⊗ h) h terms.now) }
+// r − r (z h) for that h at z = r².
+pub(crate) fn odd_polynomial(r: f64, innermost: f64, outwards: &[f64]) -> f64
+    ensures { result ≡ (let z = r ⊗ r in r ⊖ r ⊗ (z ⊗ fold (λ h c. c ⊖ z ⊗ h) innermost outwards.now)) }
 {
     let z = r * r;
-    r - r * (z * horner(z, h, terms))
+    r - r * (z * horner(z, innermost, outwards))
 }

@@ -8,10 +8,8 @@ ghost use Rattle.numeric.specs.Laws.{Angle, IsSine, IsCosine};
 use crate::checks::check_angle;
 use crate::horner::{TINY, horner, odd_polynomial};
 use fault::NumberFault;
+use std::f64::consts::FRAC_2_PI;
 use std::num::saturating_f64_to_u32;
-
-// 2/P, the nearest f64
-const TURNS_PER_RADIAN: f64 = 0.6366197723675814;
 
 // P/2 in two parts: its leading 31 binary digits, and the nearest f64 to the rest
 const QUARTER_HIGH: f64 = 1.5707963267341256;
@@ -58,7 +56,7 @@ fn cos_kernel(r: f64) -> f64
 fn quarter_turns(a: f64) -> u32
     ensures { result ≡ quarter_turns a }
 {
-    saturating_f64_to_u32(a * TURNS_PER_RADIAN + 0.5)
+    saturating_f64_to_u32(a * FRAC_2_PI + 0.5)
 }
 
 // What k quarter turns leave of a.
@@ -120,8 +118,7 @@ pub fn sin(v: f64) -> Result<f64, NumberFault>
     ensures value { result ≡ answer (angle_fault 0 v) (sin_float v) }
     ensures near { IfOk result (λ s. IsSine s v) }
 {
-    check_angle(0, v)?;
-    Ok(sin_cos_raw(v).0)
+    sin_cos(v).map(|(s, _)| s)
 }
 
 // The cosine of an angle in radians.
@@ -129,6 +126,5 @@ pub fn cos(v: f64) -> Result<f64, NumberFault>
     ensures value { result ≡ answer (angle_fault 0 v) (cos_float v) }
     ensures near { IfOk result (λ c. IsCosine c v) }
 {
-    check_angle(0, v)?;
-    Ok(sin_cos_raw(v).1)
+    sin_cos(v).map(|(_, c)| c)
 }

@@ -1,6 +1,6 @@
-use Rattle.std.proofs.Common.{rules}
+use Rattle.std.proofs.lemmas.Result.{on_ok_weaker}
 use Rattle.numeric.proofs.Tests.{angle_is}
 use Rattle.numeric.proofs.checks.check_angle.Goals as goal
 
-pub returns-then-abs : goal.returns-then-abs
-returns-then-abs c = record { value = search rules; passed = angle_is c.args.v c.in_ok-check_number.ensures.passed (search rules) }
+pub returns-clause-passed : goal.returns-clause-passed
+returns-clause-passed c = on_ok_weaker _ (λ p. angle_is c.args.v p.0 p.1) c.check_size.ensures.passed
