@@ -22,8 +22,8 @@ use Rattle.rounding.proofs.Compare.{lt_yes, lt_no}
 use Rattle.rounding.proofs.Literals.{zero_exact}
 use Rattle.rounding.proofs.Approx.{known_≤}
 use Rattle.rounding.proofs.Stated.{either}
-use Rattle.numeric.specs.Floats.{bits}
-use Rattle.numeric.specs.ArcTangent.{zero, atan2_float}
+use Rattle.numeric.specs.Floats.{bits, zero}
+use Rattle.numeric.specs.ArcTangent.{atan2_float}
 use Rattle.numeric.specs.Laws.{◌<ᶠ◌, IsAngle, AngleLaw}
 use Rattle.numeric.proofs.Numbers.{fixed, opposite, in_magnitude}
 use Rattle.numeric.proofs.Small.{small_near, small_sine}
@@ -65,7 +65,7 @@ pub record Turned (t y x : Float) : Type 0 where
   pub is : Is t
   pub size : # t within cls (pos 63 over 20)
   pub faces : 0# < # x * # x + # y * # y → Faces (exact (val t)) (# y) (# x) (2⁻ 44) (cls (pos 1 over 128))
-  pub origin : # x * # x + # y * # y ≤ 0# → t ≡ bits 0
+  pub origin : # x * # x + # y * # y ≤ 0# → t ≡ zero
   pub up : 0# < # y → 0# ≤ # t
   pub down : # y < 0# → # t ≤ 0#
   pub back : 0# ≤ # y → # x < 0# → 0# < # t

@@ -19,9 +19,9 @@ use Rattle.rounding.proofs.Exact.{Short, float_short, rounds_between}
 use Rattle.rounding.proofs.Convert.{literal_exact}
 use Rattle.rounding.proofs.Literals.{one_exact, two_exact}
 use Rattle.rounding.proofs.Approx.{known_≤}
-use Rattle.numeric.specs.Floats.{bits}
+use Rattle.numeric.specs.Floats.{bits, one}
 use Rattle.numeric.specs.Floats.{◌⊕◌ as ◌⊕ᵍ◌, ◌⊖◌ as ◌⊖ᵍ◌, ◌⊗◌ as ◌⊗ᵍ◌}
-use Rattle.numeric.specs.ArcTangent.{one, in_unit, other_side}
+use Rattle.numeric.specs.ArcTangent.{in_unit, other_side}
 use Rattle.numeric.specs.Laws.{ArcCosineLaw}
 use Rattle.numeric.proofs.Pieces.{by_cond}
 use Rattle.numeric.proofs.Angles.{angle_law}

@@ -24,9 +24,9 @@ use Rattle.rounding.proofs.Compare.{lt_yes, lt_no, le_yes, le_no}
 use Rattle.rounding.proofs.Convert.{literal, quotient_unit}
 use Rattle.rounding.proofs.Literals.{zero_exact}
 use Rattle.rounding.proofs.Approx.{known_≤}
-use Rattle.numeric.specs.Floats.{◌⊘◌, bits}
+use Rattle.numeric.specs.Floats.{◌⊘◌, bits, zero}
 use Rattle.numeric.specs.Floats.{◌⊕◌ as ◌⊕ᵍ◌, ◌⊖◌ as ◌⊖ᵍ◌}
-use Rattle.numeric.specs.ArcTangent.{zero, atan_unit, quarter_turn, half_turn, angle_up}
+use Rattle.numeric.specs.ArcTangent.{atan_unit, quarter_turn, half_turn, angle_up}
 use Rattle.numeric.proofs.Numbers.{fixed, opposite}
 use Rattle.numeric.proofs.Arc.{off, over_eighth, over_one}
 use Rattle.numeric.proofs.Pieces.{⁶⁵⁄₆₄, wave_in, by_cond, unit_aims}
@@ -193,7 +193,7 @@ pub record Up (t y x : Float) : Type 0 where
   pub low : 0# ≤ # t
   pub high : # t ≤ cls (pos 63 over 20)
   pub faces : 0# < # x * # x + # y * # y → Faces (exact (val t)) (# y) (# x) (cls in_all) (cls (pos 1 over 64))
-  pub origin : # x * # x + # y * # y ≤ 0# → t ≡ bits 0
+  pub origin : # x * # x + # y * # y ≤ 0# → t ≡ zero
   pub back : # x < 0# → 0# < # t
   pub sharp : 0# < # x → # y ≤ # x → Slope t (# y) (# x)
 

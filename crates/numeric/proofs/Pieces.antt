@@ -26,9 +26,9 @@ use Rattle.rounding.proofs.Convert.{literal_is}
 use Rattle.rounding.proofs.Literals.{one_exact}
 use Rattle.rounding.proofs.Approx.{◌≤ᵇ◌, known_≤, Approx, itself, same}
 use Rattle.rounding.proofs.Analysis.{◌⟨+⟩◌, ◌⟨*⟩◌, ∎, ◌⊳◌, analyse}
-use Rattle.numeric.specs.Floats.{◌⊘◌}
+use Rattle.numeric.specs.Floats.{◌⊘◌, one}
 use Rattle.numeric.specs.Floats.{◌⊕◌ as ◌⊕ᵍ◌, ◌⊖◌ as ◌⊖ᵍ◌, ◌⊗◌ as ◌⊗ᵍ◌}
-use Rattle.numeric.specs.ArcTangent.{one, atan_kernel, atan_near, atan_unit}
+use Rattle.numeric.specs.ArcTangent.{atan_kernel, atan_near, atan_unit}
 use Rattle.numeric.proofs.Numbers.{fixed}
 use Rattle.numeric.proofs.Polynomials.{share_≤}
 use Rattle.numeric.proofs.Arc.{off, off_near, over_eighth, over_one, Aims, itself_off, kernel_near, kernel_size, kernel_off}

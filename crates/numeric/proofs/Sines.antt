@@ -23,8 +23,8 @@ use Rattle.rounding.proofs.Compare.{lt_yes, lt_no}
 use Rattle.rounding.proofs.Convert.{literal_exact}
 use Rattle.rounding.proofs.Literals.{zero_exact}
 use Rattle.rounding.proofs.Approx.{known_≤, Approx, given, looser}
-use Rattle.numeric.specs.Floats.{bits, size}
-use Rattle.numeric.specs.Sine.{tiny, upward, sin_float, cos_float}
+use Rattle.numeric.specs.Floats.{bits, tiny, size}
+use Rattle.numeric.specs.Sine.{upward, sin_float, cos_float}
 use Rattle.numeric.specs.Laws.{Angle, IsSine, IsCosine, SineLaw, CosineLaw}
 use Rattle.numeric.proofs.Numbers.{fixed, opposite, own_opposite, in_magnitude, magnitude_≤}
 use Rattle.numeric.proofs.Polynomials.{share_≤}
