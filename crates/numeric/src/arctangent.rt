@@ -38,6 +38,7 @@ fn atan_kernel(u: f64) -> f64
 }
 
 // The arc tangent of a q near b, whose own is a.
+#[tactic(auto, unfolding(crate::specs::ArcTangent::atan_near))]
 fn atan_near(q: f64, b: f64, a: f64) -> f64
     ensures { result ≡ atan_near q b a }
 {
@@ -81,6 +82,7 @@ fn angle_up(y: f64, x: f64) -> f64
 }
 
 // The angle of the point (x, y) with no test of the numbers, for a caller that has tested them.
+#[tactic(auto, unfolding(crate::specs::ArcTangent::atan2_float))]
 pub fn atan2_raw(y: f64, x: f64) -> f64
     ensures value { result ≡ atan2_float y x }
     ensures near { Is y → Is x → IsAngle result y x }
@@ -103,6 +105,7 @@ pub fn atan2(y: f64, x: f64) -> Result<f64, NumberFault>
 }
 
 // The angle whose cosine is f with no test of f, for a caller that has tested it.
+#[tactic(auto, using(crate::proofs::ArcCosine::arc_cosine_law))]
 pub fn acos_raw(f: f64) -> f64
     ensures value { result ≡ acos_float f }
     ensures near { Is f → IsArcCosine result f }
@@ -121,6 +124,7 @@ pub fn acos_approx(f: f64) -> Result<f64, NumberFault>
 }
 
 // By the definition alone, √2 has the bits 3FF6A09E667F3BCD.
+#[tactic(auto, using(crate::proofs::Roots::root_two))]
 pub fn root_example_stands()
     ensures { RootExample }
 {}

@@ -13,6 +13,7 @@ use fault::NumberFault;
 pub const LARGEST_ANGLE: f64 = 1000.0;
 
 // A number is finite.
+#[tactic(auto, using(crate::proofs::Tests::number_is))]
 pub fn check_number(argument: u8, v: f64) -> Result<(), NumberFault>
     ensures value { result ≡ answer (number_fault argument v) tt }
     ensures passed { OnOk result (Is v) }
@@ -38,6 +39,7 @@ pub fn check_size(argument: u8, v: f64, largest: f64) -> Result<(), NumberFault>
 }
 
 // An angle is a number of at most 1000 in size.
+#[tactic(auto, using(crate::proofs::Tests::angle_is))]
 pub fn check_angle(argument: u8, v: f64) -> Result<(), NumberFault>
     ensures value { result ≡ answer (angle_fault argument v) tt }
     ensures passed { OnOk result (Angle v) }

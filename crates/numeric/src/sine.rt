@@ -80,6 +80,7 @@ fn turned(k: u32, s: f64, c: f64) -> (f64, f64)
 }
 
 // The sine and the cosine of an angle that is not negative.
+#[tactic(auto, unfolding(crate::specs::Sine::upward))]
 fn upward(a: f64) -> (f64, f64)
     ensures { result ≡ upward a }
 {
