@@ -23,7 +23,7 @@ use Rattle.rounding.proofs.Compare.{lt_yes, lt_no}
 use Rattle.rounding.proofs.Literals.{zero_exact}
 use Rattle.rounding.proofs.Approx.{known_≤}
 use Rattle.rounding.proofs.Stated.{either}
-use Rattle.numeric.specs.Floats.{bits, zero}
+use Rattle.numeric.specs.Floats.{zero}
 use Rattle.numeric.specs.ArcTangent.{atan2_float}
 use Rattle.numeric.specs.Laws.{◌<ᶠ◌, IsAngle, AngleLaw}
 use Rattle.numeric.proofs.Numbers.{fixed, opposite, in_magnitude}

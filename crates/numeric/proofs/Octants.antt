@@ -25,7 +25,7 @@ use Rattle.rounding.proofs.Compare.{lt_yes, lt_no, le_yes, le_no}
 use Rattle.rounding.proofs.Convert.{literal, quotient_unit}
 use Rattle.rounding.proofs.Literals.{zero_exact}
 use Rattle.rounding.proofs.Approx.{known_≤}
-use Rattle.numeric.specs.Floats.{◌⊘◌, bits, zero}
+use Rattle.numeric.specs.Floats.{◌⊘◌, zero}
 use Rattle.numeric.specs.Floats.{◌⊕◌ as ◌⊕ᵍ◌, ◌⊖◌ as ◌⊖ᵍ◌}
 use Rattle.numeric.specs.ArcTangent.{atan_unit, quarter_turn, half_turn, angle_up}
 use Rattle.numeric.proofs.Numbers.{fixed, opposite}

@@ -1,5 +1,5 @@
 -- The arc tangent of a q from 0 to 1: q itself where it is tiny, the series up to 1/8, and above that the angle a of a near b and the small angle of (q − b) / (1 + q b), which the addition theorem joins.
-use Rattle.std.proofs.Common.{◌≡◌, Bool, true, false, cond, ◌&&◌, T, pos, sym, refl, ap, ◌∙◌}
+use Rattle.std.proofs.Common.{◌≡◌, Bool, false, cond, ◌&&◌, T, pos, sym, ap, ◌∙◌}
 use Rattle.std.proofs.lemmas.Bool.{cond_both}
 use lib.Ieee.{Float, binary64, fits, of_bits, lt}
 use lib.Ieee.Scale.{finite}
