@@ -64,9 +64,12 @@ turned k s c = quarter (k % 4) s c
 unfoldable pub upward : Float → Float × Float
 upward a = let k = quarter_turns a in let r = remainder a k in turned k (sin_kernel r) (cos_kernel r)
 
--- below 2^-27 in size the sine of v is v; else it has the sign of v
+-- the sine of v by that of its size: below 2^-27 in size v itself; else it has the sign of v
+abbrev pub signed : Float → Float → Float
+signed v s = cond (lt (size v) tiny) v (cond (lt v nought) (neg s) s)
+
 abbrev pub sin_float : Float → Float
-sin_float v = cond (lt (size v) tiny) v (cond (lt v nought) (neg (upward (size v)).0) (upward (size v)).0)
+sin_float v = signed v (upward (size v)).0
 
 abbrev pub cos_float : Float → Float
 cos_float v = (upward (size v)).1

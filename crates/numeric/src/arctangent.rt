@@ -20,7 +20,7 @@ pub fn sqrt(v: f64) -> f64
     v.sqrt()
 }
 
-// 1/13 to 1/3, the innermost first
+// Outwards from 1/13 to 1/3; 1/15 is the innermost.
 const ODD_PARTS: [f64; 6] = [
     0.07692307692307693, // 1/13
     0.09090909090909091, // 1/11

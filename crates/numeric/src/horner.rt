@@ -5,14 +5,14 @@ ghost use Rattle.numeric.specs.Floats.{◌⊖◌, ◌⊗◌};
 // 2^-27: the cube of what is smaller is lost beside it
 pub(crate) const TINY: f64 = 7.450580596923828e-9;
 
-// From the inside: the innermost coefficient, and then each of `outwards` less z times what stands so far.
+// c − z (d − z (…)), from the inside: the innermost coefficient, and then each of `outwards` less z times what stands so far.
 pub(crate) fn horner(z: f64, innermost: f64, outwards: &[f64]) -> f64
     ensures { result ≡ fold (λ h c. c ⊖ z ⊗ h) innermost outwards.now }
 {
     outwards.iter().fold(innermost, |h, c| *c - z * h)
 }
 
-// r − r (z h) for that h at z = r².
+// r − r z h, where h is that polynomial at z = r².
 pub(crate) fn odd_polynomial(r: f64, innermost: f64, outwards: &[f64]) -> f64
     ensures { result ≡ (let z = r ⊗ r in r ⊖ r ⊗ (z ⊗ fold (λ h c. c ⊖ z ⊗ h) innermost outwards.now)) }
 {

@@ -2,7 +2,7 @@
 ghost use Rattle.std.specs.Prelude.{◌≡◌, IfOk};
 ghost use Rattle.fault.specs.Answers.{answer};
 ghost use Rattle.numeric.specs.Tests.{angle_fault};
-ghost use Rattle.numeric.specs.Sine.{sin_kernel, cos_kernel, quarter_turns, remainder, turned, upward, sin_float, cos_float};
+ghost use Rattle.numeric.specs.Sine.{sin_kernel, cos_kernel, quarter_turns, remainder, turned, upward, signed, sin_float, cos_float};
 ghost use Rattle.numeric.specs.Laws.{Angle, IsSine, IsCosine};
 
 use crate::checks::check_angle;
@@ -16,7 +16,7 @@ const QUARTER_HIGH: f64 = 1.5707963267341256;
 
 const QUARTER_LOW: f64 = 6.077100506506192e-11;
 
-// 1/13! to 1/3!, the innermost first
+// Outwards from 1/13! to 1/3!; 1/15! is the innermost.
 const ODD_INVERSES: [f64; 6] = [
     1.6059043836821613e-10, // 1/13!
     2.505210838544172e-08, // 1/11!
@@ -26,7 +26,7 @@ const ODD_INVERSES: [f64; 6] = [
     0.16666666666666666, // 1/3!
 ];
 
-// 1/14! to 1/0!, the innermost first
+// Outwards from 1/14! to 1; 1/16! is the innermost.
 const EVEN_INVERSES: [f64; 8] = [
     1.1470745597729725e-11, // 1/14!
     2.08767569878681e-09, // 1/12!
@@ -89,20 +89,26 @@ fn upward(a: f64) -> (f64, f64)
     turned(k, sin_kernel(r), cos_kernel(r))
 }
 
+// The sine of v by that of its size: v itself where it is tiny, or else with its sign.
+fn signed(v: f64, s: f64) -> f64
+    ensures { result ≡ signed v s }
+{
+    if v.abs() < TINY {
+        v
+    } else if v < 0.0 {
+        -s
+    } else {
+        s
+    }
+}
+
 // The sine and the cosine with no test of the angle, for a caller that has tested it. Beyond 1000 they are floats, and no more.
 pub fn sin_cos_raw(v: f64) -> (f64, f64)
     ensures value { result ≡ (sin_float v, cos_float v) }
     ensures near { Angle v → IsSine result.0 v × IsCosine result.1 v }
 {
-    let a = v.abs();
-    let (s, c) = upward(a);
-    if a < TINY {
-        (v, c)
-    } else if v < 0.0 {
-        (-s, c)
-    } else {
-        (s, c)
-    }
+    let (s, c) = upward(v.abs());
+    (signed(v, s), c)
 }
 
 // The sine and the cosine of an angle in radians.
