@@ -47,7 +47,7 @@ atan2_float y x = cond (lt y zero) (neg (angle_up (neg y) x)) (angle_up y x)
 
 -- f brought into −1..1
 abbrev pub in_unit : Float → Float
-in_unit f = float_clamp f (minus_one) one
+in_unit f = float_clamp f minus_one one
 
 -- √(1 − g²)
 abbrev pub other_side : Float → Float
