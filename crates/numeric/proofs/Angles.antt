@@ -1,5 +1,6 @@
 -- The angle of any point: that of its mirror image above the axis, with the sign of y; and the law, as specs/Laws.antt states it.
 use Rattle.std.proofs.Common.{◌≡◌, pos, sym, refl, ap, ◌∙◌, subst, ap₂, inl, inr}
+use Rattle.std.proofs.lemmas.Bool.{cond_both}
 use lib.Ieee.{Float, lt}
 use lib.Ieee.{neg as negᵍ}
 use Rattle.exact.specs.Fraction.{Frac, whole, part, ◌over◌, ◌+ᶠ◌, ◌-ᶠ◌, ◌*ᶠ◌}
@@ -22,12 +23,11 @@ use Rattle.rounding.proofs.Compare.{lt_yes, lt_no}
 use Rattle.rounding.proofs.Literals.{zero_exact}
 use Rattle.rounding.proofs.Approx.{known_≤}
 use Rattle.rounding.proofs.Stated.{either}
-use Rattle.numeric.specs.Floats.{bits}
-use Rattle.numeric.specs.ArcTangent.{zero, atan2_float}
+use Rattle.numeric.specs.Floats.{zero}
+use Rattle.numeric.specs.ArcTangent.{atan2_float}
 use Rattle.numeric.specs.Laws.{◌<ᶠ◌, IsAngle, AngleLaw}
 use Rattle.numeric.proofs.Numbers.{fixed, opposite, in_magnitude}
 use Rattle.numeric.proofs.Small.{small_near, small_sine}
-use Rattle.numeric.proofs.Pieces.{by_cond}
 use Rattle.numeric.proofs.Octants.{Slope, Faces, aside_near, behind, faces_mirror, faces_near, faces_at, in_all, Up, angle_up_is}
 
 -- ---- in proportion to y, for 2⁻⁶⁰ x ≤ |y| ≤ x
@@ -65,7 +65,7 @@ pub record Turned (t y x : Float) : Type 0 where
   pub is : Is t
   pub size : # t within cls (pos 63 over 20)
   pub faces : 0# < # x * # x + # y * # y → Faces (exact (val t)) (# y) (# x) (2⁻ 44) (cls (pos 1 over 128))
-  pub origin : # x * # x + # y * # y ≤ 0# → t ≡ bits 0
+  pub origin : # x * # x + # y * # y ≤ 0# → t ≡ zero
   pub up : 0# < # y → 0# ≤ # t
   pub down : # y < 0# → # t ≤ 0#
   pub back : 0# ≤ # y → # x < 0# → 0# < # t
@@ -124,7 +124,7 @@ module _ (y : Float) {t x : Float} (n : # y < 0#) (u : Up t (negᵍ y) x) where
 
 pub turned : (y x : Float) → Is y → Is x → Turned (atan2_float y x) y x
 unfolding atan2_float
-turned y x i j = by_cond (λ t. Turned t y x) (lt y zero) (λ e. let n = lt_yes (own i) zero_exact e in lower y n (angle_up_is (neg_is i) j (≤_of_< (behind y n))))
+turned y x i j = cond_both (lt y zero) _ _ (λ t. Turned t y x) (λ e. let n = lt_yes (own i) zero_exact e in lower y n (angle_up_is (neg_is i) j (≤_of_< (behind y n))))
     (λ e. let l = lt_no (own i) zero_exact e in upper l (angle_up_is i j l))
 
 above : {a b : Frac} → a <ᶠ b → cls a < cls b

@@ -1,5 +1,5 @@
 -- The arc tangent near 0. How far t is from an angle whose tangent is u is told by u C(t) − S(t): for t = u − u³/3 + … − u¹⁵/15, and for t = u, it is one polynomial in u, bounded by computing.
-use Rattle.std.proofs.Common.{◌≡◌, ℕ, Bool, true, false, not, T, List, [], ◌∷◌, ℤ, pos, sym, ap, ◌∙◌, ap₂, lit<}
+use Rattle.std.proofs.Common.{drop, ◌≡◌, ℕ, Bool, true, false, not, T, List, [], ◌∷◌, ℤ, pos, sym, ap, ◌∙◌, ap₂, lit<}
 use Prim.Native.Nat as N
 use lib.Ieee.{Float, of_bits, fits}
 use Rattle.exact.specs.Fraction.{Frac, whole, part, ◌over◌, ◌+ᶠ◌, ◌-ᶠ◌, ◌*ᶠ◌}
@@ -36,11 +36,7 @@ abbrev headless : List ℤ → Bool
 headless [] = true
 headless (c ∷ p) = is_zero c
 
-abbrev tail : List ℤ → List ℤ
-tail [] = []
-tail (c ∷ p) = p
-
-tail_is : (p : List ℤ) (x : ℚ) → T (headless p) → value p x ≡ x * value (tail p) x
+tail_is : (p : List ℤ) (x : ℚ) → T (headless p) → value p x ≡ x * value (drop 1 p) x
 unfolding ev
 tail_is [] x t = ring (x ▸ ∅) (λ x. 0ₑ ≐ x ⊗ 0ₑ) tt
 tail_is (c ∷ p) x t = ap (λ (z : ℤ). value (z ∷ p) x) (is_zero_is c t) ∙ shift_is ℤ_num ℤ_means p x
@@ -55,7 +51,7 @@ module _ (d D : ℕ) (p : List ℤ) where
   off_poly = leaf (pos 0 ∷ pos 1 ∷ []) ⊛ (Cₚ D at leaf p) ⊹ ~ (leaf (pos d ∷ []) ⊛ (Sₚ D at leaf p))
 
   abbrev off_bound : ℚ
-  off_bound = num d * num (bound ℤ_num 1 (tail (flat ℤ_num off_poly))) * cls (pos 1 over κ)
+  off_bound = num d * num (bound ℤ_num 1 (drop 1 (flat ℤ_num off_poly))) * cls (pos 1 over κ)
 
   module _ (f : ℚ → ℚ) (p_is : (x : ℚ) → value p (num d * x) ≡ num D * f x) (odd : T (even_lots (common D) D odds)) (even : T (even_lots (common D) D evens)) where
     off_is : (x : ℚ) → mean ℤ_num ℤ_means (num d * x) off_poly ≡ num κ * off x (wave (f x))
@@ -68,8 +64,8 @@ module _ (d D : ℕ) (p : List ℤ) where
     -- |d x| ≤ 1 and |x| ≤ w
     off_within : {x w e : ℚ} → N.◌<◌ 0 κ → T (headless (flat ℤ_num off_poly)) → num d * x within num 1 → x within w → off_bound ≤ e → off x (wave (f x)) within w * e
     off_within {x} {w} {e} above t h k b = divide κ above
-        (within_at (sym (tail_is (flat ℤ_num off_poly) (num d * x) t) ∙ flat_is ℤ_num ℤ_means (num d * x) off_poly ∙ off_is x) (within_* (within_* (within_self (0≤num d)) k) (bound_is ℤ_num ℤ_means (tail (flat ℤ_num off_poly)) h)))
-        (le (num d ▸ w ▸ num (bound ℤ_num 1 (tail (flat ℤ_num off_poly))) ▸ cls (pos 1 over κ) ▸ e ▸ ∅) (λ d w b i e. 0ₑ ≼ w ⇒ λ h. d ⊗ b ⊗ i ≼ e ⇒ λ k. d ⊗ w ⊗ b ⊗ i ≼ w ⊗ e by h ⊠ k) tt (within_nonneg k) b)
+        (within_at (sym (tail_is (flat ℤ_num off_poly) (num d * x) t) ∙ flat_is ℤ_num ℤ_means (num d * x) off_poly ∙ off_is x) (within_* (within_* (within_self (0≤num d)) k) (bound_is ℤ_num ℤ_means (drop 1 (flat ℤ_num off_poly)) h)))
+        (le (num d ▸ w ▸ num (bound ℤ_num 1 (drop 1 (flat ℤ_num off_poly))) ▸ cls (pos 1 over κ) ▸ e ▸ ∅) (λ d w b i e. 0ₑ ≼ w ⇒ λ h. d ⊗ b ⊗ i ≼ e ⇒ λ k. d ⊗ w ⊗ b ⊗ i ≼ w ⊗ e by h ⊠ k) tt (within_nonneg k) b)
 
 -- ---- f u = u, for |u| ≤ 2⁻²⁷: u³/3 and less
 

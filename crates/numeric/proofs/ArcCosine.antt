@@ -1,5 +1,6 @@
 -- The arc cosine: the point (g, √((1 − g) (1 + g))) lies on the circle, and its angle is that of `atan2_float`.
 use Rattle.std.proofs.Common.{◌≡◌, pos, sym, refl, ap, ◌∙◌, subst}
+use Rattle.std.proofs.lemmas.Bool.{cond_both}
 use lib.Ieee.{Float, lt, of_bits, fits}
 use lib.Ieee.{neg as negᵍ}
 use Rattle.exact.specs.Fraction.{whole, part, ◌+ᶠ◌}
@@ -19,11 +20,10 @@ use Rattle.rounding.proofs.Exact.{Short, float_short, rounds_between}
 use Rattle.rounding.proofs.Convert.{literal_exact}
 use Rattle.rounding.proofs.Literals.{one_exact, two_exact}
 use Rattle.rounding.proofs.Approx.{known_≤}
-use Rattle.numeric.specs.Floats.{bits}
+use Rattle.numeric.specs.Floats.{bits, one}
 use Rattle.numeric.specs.Floats.{◌⊕◌ as ◌⊕ᵍ◌, ◌⊖◌ as ◌⊖ᵍ◌, ◌⊗◌ as ◌⊗ᵍ◌}
-use Rattle.numeric.specs.ArcTangent.{one, in_unit, other_side}
+use Rattle.numeric.specs.ArcTangent.{in_unit, other_side}
 use Rattle.numeric.specs.Laws.{ArcCosineLaw}
-use Rattle.numeric.proofs.Pieces.{by_cond}
 use Rattle.numeric.proofs.Angles.{angle_law}
 
 -- ---- f brought into −1..1
@@ -39,13 +39,13 @@ one_size : 1# within 1#
 one_size = within_self (known_≤ tt)
 
 unit_size : {f : Float} → Is f → UnitSize (in_unit f)
-unit_size {f} i = by_cond UnitSize (lt f (negᵍ one)) (λ e. record { is = minus_one.is; size = within_at (sym minus_one.value) (within_neg one_size) })
-    (λ e. by_cond UnitSize (lt one f) (λ d. record { is = one_exact.is; size = within_at (sym one_exact.value) one_size })
+unit_size {f} i = cond_both (lt f (negᵍ one)) _ _ UnitSize (λ e. record { is = minus_one.is; size = within_at (sym minus_one.value) (within_neg one_size) })
+    (λ e. cond_both (lt one f) _ _ UnitSize (λ d. record { is = one_exact.is; size = within_at (sym one_exact.value) one_size })
     (λ d. record { is = i; size = record { up = lt_no one_exact (own i) d; down = by_cert (# f ▸ ∅) (λ f. ⊖ 1ₑ ≼ f ⇒ λ h. ⊖ f ≼ 1ₑ by h) tt (lt_no (own i) minus_one e) } }))
 
 itself : {f : Float} → Is f → # f within 1# → in_unit f ≡ f
-itself {f} i h = by_cond (λ g. g ≡ f) (lt f (negᵍ one)) (λ e. absurd (<_not (lt_yes (own i) minus_one e) (by_cert (# f ▸ ∅) (λ f. ⊖ f ≼ 1ₑ ⇒ λ h. ⊖ 1ₑ ≼ f by h) tt h.down)))
-    (λ e. by_cond (λ g. g ≡ f) (lt one f) (λ d. absurd (<_not (lt_yes one_exact (own i) d) h.up)) (λ d. refl))
+itself {f} i h = cond_both (lt f (negᵍ one)) _ _ (λ g. g ≡ f) (λ e. absurd (<_not (lt_yes (own i) minus_one e) (by_cert (# f ▸ ∅) (λ f. ⊖ f ≼ 1ₑ ⇒ λ h. ⊖ 1ₑ ≼ f by h) tt h.down)))
+    (λ e. cond_both (lt one f) _ _ (λ g. g ≡ f) (λ d. absurd (<_not (lt_yes one_exact (own i) d) h.up)) (λ d. refl))
 
 -- ---- the point
 

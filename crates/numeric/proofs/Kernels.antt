@@ -12,7 +12,8 @@ use Rattle.rounding.specs.Value.{Is}
 use Rattle.rounding.proofs.Values.{#◌}
 use Rattle.rounding.proofs.Rounds.{Rounds}
 use Rattle.rounding.proofs.Operations.{rounds_at}
-use Rattle.numeric.specs.Sine.{sixth, odd_inverses, unit, even_inverses, sin_kernel, cos_kernel}
+use Rattle.numeric.specs.Floats.{one}
+use Rattle.numeric.specs.Sine.{sixth, odd_inverses, even_inverses, sin_kernel, cos_kernel}
 use Rattle.numeric.proofs.Polynomials.{nest, most, most_is, Bounds, even_near, odd_near}
 
 -- ---- the exact series by Horner's rule
@@ -71,7 +72,7 @@ cosine_bounds = record { k = whole (pos 1); d = part 58; m = whole (pos 3); e = 
 
 pub cos_kernel_near : {r : Float} → Is r → # r within cls widest → Rounds (cos_kernel r) (Cᵥ (# r)) (2⁻ 48)
 unfolding of_bits fits computes
-cos_kernel_near {r} i h = rounds_at (C_nest (# r)) (even_near cosine_bounds widest i h tt unit even_inverses (pos 1 over factorial 0) (inverses later_evens) tt).rounds
+cos_kernel_near {r} i h = rounds_at (C_nest (# r)) (even_near cosine_bounds widest i h tt one even_inverses (pos 1 over factorial 0) (inverses later_evens) tt).rounds
 
 -- ---- below 2^-27 the series is its first term: x³/3! is 2^-56 of x at most
 

@@ -1,5 +1,6 @@
 -- The angle of a point (x, y) with y not below 0: the angle of its ratio m / M in the first octant, where 0 ≤ m ≤ M, carried to its own by a mirror and quarter turns.
 use Rattle.std.proofs.Common.{◌≡◌, ℤ, pos, sym, refl, ap, subst}
+use Rattle.std.proofs.lemmas.Bool.{cond_both}
 use Prim.Native.Nat as N
 use lib.Ieee.{Float, fits, of_bits, lt, le}
 use lib.Ieee.{neg as negᵍ}
@@ -24,12 +25,12 @@ use Rattle.rounding.proofs.Compare.{lt_yes, lt_no, le_yes, le_no}
 use Rattle.rounding.proofs.Convert.{literal, quotient_unit}
 use Rattle.rounding.proofs.Literals.{zero_exact}
 use Rattle.rounding.proofs.Approx.{known_≤}
-use Rattle.numeric.specs.Floats.{◌⊘◌, bits}
+use Rattle.numeric.specs.Floats.{◌⊘◌, zero}
 use Rattle.numeric.specs.Floats.{◌⊕◌ as ◌⊕ᵍ◌, ◌⊖◌ as ◌⊖ᵍ◌}
-use Rattle.numeric.specs.ArcTangent.{zero, atan_unit, quarter_turn, half_turn, angle_up}
+use Rattle.numeric.specs.ArcTangent.{atan_unit, quarter_turn, half_turn, angle_up}
 use Rattle.numeric.proofs.Numbers.{fixed, opposite}
 use Rattle.numeric.proofs.Arc.{off, over_eighth, over_one}
-use Rattle.numeric.proofs.Pieces.{⁶⁵⁄₆₄, wave_in, by_cond, unit_aims}
+use Rattle.numeric.proofs.Pieces.{⁶⁵⁄₆₄, wave_in, unit_aims}
 
 -- ---- the ratio
 
@@ -193,7 +194,7 @@ pub record Up (t y x : Float) : Type 0 where
   pub low : 0# ≤ # t
   pub high : # t ≤ cls (pos 63 over 20)
   pub faces : 0# < # x * # x + # y * # y → Faces (exact (val t)) (# y) (# x) (cls in_all) (cls (pos 1 over 64))
-  pub origin : # x * # x + # y * # y ≤ 0# → t ≡ bits 0
+  pub origin : # x * # x + # y * # y ≤ 0# → t ≡ zero
   pub back : # x < 0# → 0# < # t
   pub sharp : 0# < # x → # y ≤ # x → Slope t (# y) (# x)
 
@@ -318,8 +319,8 @@ module _ {y x : Float} (i : Is y) (j : Is x) (0≤y : 0# ≤ # y) where
   }
 
   pub angle_up_is : Up (angle_up y x) y x
-  angle_up_is = by_cond (λ t. Up t y x) (lt x zero)
-      (λ e. by_cond (λ t. Up t y x) (le y (negᵍ x)) (λ f. fourth (lt_yes (own j) zero_exact e) (le_yes (own i) (own (neg_is j)) f)) (λ f. third (lt_yes (own j) zero_exact e) (le_no (own i) (own (neg_is j)) f)))
-      (λ e. by_cond (λ t. Up t y x) (le y x)
-      (λ f. by_cond (λ t. Up t y x) (lt zero x) (λ g. first (lt_yes zero_exact (own j) g) (le_yes (own i) (own j) f)) (λ g. nowhere (lt_no (own j) zero_exact e) (lt_no zero_exact (own j) g) (le_yes (own i) (own j) f)))
+  angle_up_is = cond_both (lt x zero) _ _ (λ t. Up t y x)
+      (λ e. cond_both (le y (negᵍ x)) _ _ (λ t. Up t y x) (λ f. fourth (lt_yes (own j) zero_exact e) (le_yes (own i) (own (neg_is j)) f)) (λ f. third (lt_yes (own j) zero_exact e) (le_no (own i) (own (neg_is j)) f)))
+      (λ e. cond_both (le y x) _ _ (λ t. Up t y x)
+      (λ f. cond_both (lt zero x) _ _ (λ t. Up t y x) (λ g. first (lt_yes zero_exact (own j) g) (le_yes (own i) (own j) f)) (λ g. nowhere (lt_no (own j) zero_exact e) (lt_no zero_exact (own j) g) (le_yes (own i) (own j) f)))
       (λ f. second (lt_no (own j) zero_exact e) (le_no (own i) (own j) f)))

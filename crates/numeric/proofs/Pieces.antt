@@ -1,5 +1,6 @@
 -- The arc tangent of a q from 0 to 1: q itself where it is tiny, the series up to 1/8, and above that the angle a of a near b and the small angle of (q − b) / (1 + q b), which the addition theorem joins.
-use Rattle.std.proofs.Common.{◌≡◌, Bool, true, false, cond, ◌&&◌, T, pos, sym, refl, ap, ◌∙◌}
+use Rattle.std.proofs.Common.{◌≡◌, Bool, false, cond, ◌&&◌, T, pos, sym, ap, ◌∙◌}
+use Rattle.std.proofs.lemmas.Bool.{cond_both}
 use lib.Ieee.{Float, binary64, fits, of_bits, lt}
 use lib.Ieee.Scale.{finite}
 use Rattle.exact.specs.Fraction.{Frac, whole, part, ◌over◌, inverse, ◌+ᶠ◌, ◌-ᶠ◌, ◌*ᶠ◌}
@@ -26,17 +27,12 @@ use Rattle.rounding.proofs.Convert.{literal_is}
 use Rattle.rounding.proofs.Literals.{one_exact}
 use Rattle.rounding.proofs.Approx.{◌≤ᵇ◌, known_≤, Approx, itself, same}
 use Rattle.rounding.proofs.Analysis.{◌⟨+⟩◌, ◌⟨*⟩◌, ∎, ◌⊳◌, analyse}
-use Rattle.numeric.specs.Floats.{◌⊘◌}
+use Rattle.numeric.specs.Floats.{◌⊘◌, one}
 use Rattle.numeric.specs.Floats.{◌⊕◌ as ◌⊕ᵍ◌, ◌⊖◌ as ◌⊖ᵍ◌, ◌⊗◌ as ◌⊗ᵍ◌}
-use Rattle.numeric.specs.ArcTangent.{one, atan_kernel, atan_near, atan_unit}
+use Rattle.numeric.specs.ArcTangent.{atan_kernel, atan_near, atan_unit}
 use Rattle.numeric.proofs.Numbers.{fixed}
 use Rattle.numeric.proofs.Polynomials.{share_≤}
 use Rattle.numeric.proofs.Arc.{off, off_near, over_eighth, over_one, Aims, itself_off, kernel_near, kernel_size, kernel_off}
-
--- the proof of each branch, for the branches
-pub by_cond : {A : Type 0} (P : A → Type 0) (b : Bool) {x y : A} → (b ≡ true → P x) → (b ≡ false → P y) → P (cond b x y)
-by_cond P true f g = f refl
-by_cond P false f g = g refl
 
 -- ---- over rational numbers: a has the tangent b, w the tangent u = (q − b) / (1 + q b), and t is a + w
 
@@ -241,8 +237,8 @@ series_aims {q} i l h =
 
 pub unit_aims : (q : Float) → Is q → 0# ≤ # q → # q ≤ 1# → Aims (atan_unit q) (# q)
 unfolding of_bits fits alternating
-unit_aims q i l h = by_cond A (lt q _) (λ e. itself_aims i l (≤_of_< (lt_yes (own i) (own (literal_is tt)) e)))
-    (λ e. by_cond A (lt q _) (λ f. series_aims i (lt_no (own i) (own (literal_is tt)) e) (≤_of_< (lt_yes (own i) (own (literal_is tt)) f)))
+unit_aims q i l h = cond_both (lt q _) _ _ A (λ e. itself_aims i l (≤_of_< (lt_yes (own i) (own (literal_is tt)) e)))
+    (λ e. cond_both (lt q _) _ _ A (λ f. series_aims i (lt_no (own i) (own (literal_is tt)) e) (≤_of_< (lt_yes (own i) (own (literal_is tt)) f)))
     (next (piece tt tt tt tt tt tt tt) (next (piece tt tt tt tt tt tt tt) (next (piece tt tt tt tt tt tt tt) (last (piece tt tt tt tt tt tt tt))))))
   where
     A : Float → Type 0
@@ -250,7 +246,7 @@ unit_aims q i l h = by_cond A (lt q _) (λ e. itself_aims i l (≤_of_< (lt_yes 
 
     -- a piece between two tests, and the last
     next : {lo hi b a r : Float} → Piece lo hi b a → (lt q hi ≡ false → A r) → lt q lo ≡ false → A (cond (lt q hi) (atan_near q b a) r)
-    next {hi = hi} p f e = by_cond A (lt q hi) (λ d. near_aims p i (lt_no (own i) (own p.is_lo) e) (≤_of_< (lt_yes (own i) (own p.is_hi) d))) f
+    next {hi = hi} p f e = cond_both (lt q hi) _ _ A (λ d. near_aims p i (lt_no (own i) (own p.is_lo) e) (≤_of_< (lt_yes (own i) (own p.is_hi) d))) f
 
     last : {lo b a : Float} → Piece lo one b a → lt q lo ≡ false → A (atan_near q b a)
     last p e = near_aims p i (lt_no (own i) (own p.is_lo) e) (≤_trans h (≤_of (sym one_exact.value)))

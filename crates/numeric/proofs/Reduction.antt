@@ -19,7 +19,7 @@ use Rattle.rounding.proofs.Convert.{literal, literal_exact, whole_exact, multipl
 use Rattle.rounding.proofs.Approx.{known_≤, Approx, itself, given, constant, same}
 use Rattle.rounding.proofs.Analysis.{∎, ◌⊳◌, ◌⟨+⟩◌, ◌⟨-⟩◌, ◌⟨*⟩◌, analyse}
 use Rattle.numeric.specs.Sine.{turns_per_radian, quarter_turns, quarter_high, quarter_low, remainder}
-use Rattle.numeric.specs.Sine.{half as half_float}
+use Rattle.numeric.specs.Floats.{half as half_float}
 use Rattle.numeric.proofs.Numbers.{fixed}
 
 -- ---- the literals

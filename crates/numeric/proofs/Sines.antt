@@ -23,8 +23,8 @@ use Rattle.rounding.proofs.Compare.{lt_yes, lt_no}
 use Rattle.rounding.proofs.Convert.{literal_exact}
 use Rattle.rounding.proofs.Literals.{zero_exact}
 use Rattle.rounding.proofs.Approx.{known_≤, Approx, given, looser}
-use Rattle.numeric.specs.Floats.{bits, size}
-use Rattle.numeric.specs.Sine.{tiny, upward, sin_float, cos_float}
+use Rattle.numeric.specs.Floats.{bits, tiny, size}
+use Rattle.numeric.specs.Sine.{upward, sin_float, cos_float}
 use Rattle.numeric.specs.Laws.{Angle, IsSine, IsCosine, SineLaw, CosineLaw}
 use Rattle.numeric.proofs.Numbers.{fixed, opposite, own_opposite, in_magnitude, magnitude_≤}
 use Rattle.numeric.proofs.Polynomials.{share_≤}
@@ -154,8 +154,8 @@ pub cosine_law : CosineLaw
 cosine_law = is_cosine
 
 -- of a pair that is the two of v
-pub both_near : (v : Float) {p : Float × Float} → p ≡ (sin_float v, cos_float v) → Angle v → IsSine p.0 v × IsCosine p.1 v
-both_near v e h = subst (λ (p : Float × Float). IsSine p.0 v × IsCosine p.1 v) (sym e) (sine_law v h, cosine_law v h)
+pub both_near : (v : Float) {s c : Float} → s ≡ sin_float v → c ≡ cos_float v → Angle v → IsSine s v × IsCosine c v
+both_near v d e h = (subst (λ s. IsSine s v) (sym d) (sine_law v h), subst (λ c. IsCosine c v) (sym e) (cosine_law v h))
 
 -- ---- for the analysis of what uses them: 1 + 2^-73 of the exact ones, and 2^-44
 

@@ -2,13 +2,7 @@
 use Rattle.std.specs.Prelude.{cond, List, [], ◌∷◌, Float}
 use Rattle.std.specs.Float.Ieee.{neg, lt, le}
 use Rattle.std.specs.Float.{sqrt, float_clamp, binary64}
-use Rattle.numeric.specs.Floats.{◌⊕◌, ◌⊖◌, ◌⊗◌, ◌⊘◌, bits, odd_polynomial}
-
-abbrev pub zero : Float
-zero = bits 0
-
-abbrev pub one : Float
-one = bits 0x3FF0_0000_0000_0000
+use Rattle.numeric.specs.Floats.{◌⊕◌, ◌⊖◌, ◌⊗◌, ◌⊘◌, bits, zero, half, one, minus_one, tiny, odd_polynomial}
 
 -- 1/5, 1/7, … 1/15, each the nearest f64
 abbrev pub odd_parts : List Float
@@ -27,10 +21,10 @@ atan_near q b a = a ⊕ atan_kernel ((q ⊖ b) ⊘ (one ⊕ q ⊗ b))
 -- of a q from 0 to 1: below 2^-27 itself, below 1/8 the series, else about the nearest quarter
 abbrev pub atan_unit : Float → Float
 atan_unit q =
-    cond (lt q (bits 0x3E40_0000_0000_0000)) q
+    cond (lt q tiny) q
     (cond (lt q (bits 0x3FC0_0000_0000_0000)) (atan_kernel q)
     (cond (lt q (bits 0x3FD8_0000_0000_0000)) (atan_near q (bits 0x3FD0_0000_0000_0000) (bits 0x3FCF_5B75_F92C_80DD))
-    (cond (lt q (bits 0x3FE4_0000_0000_0000)) (atan_near q (bits 0x3FE0_0000_0000_0000) (bits 0x3FDD_AC67_0561_BB4F))
+    (cond (lt q (bits 0x3FE4_0000_0000_0000)) (atan_near q half (bits 0x3FDD_AC67_0561_BB4F))
     (cond (lt q (bits 0x3FEC_0000_0000_0000)) (atan_near q (bits 0x3FE8_0000_0000_0000) (bits 0x3FE4_978F_A326_9EE1))
     (atan_near q one (bits 0x3FE9_21FB_5444_2D18))))))
 
@@ -53,7 +47,7 @@ atan2_float y x = cond (lt y zero) (neg (angle_up (neg y) x)) (angle_up y x)
 
 -- f brought into −1..1
 abbrev pub in_unit : Float → Float
-in_unit f = float_clamp f (neg one) one
+in_unit f = float_clamp f minus_one one
 
 -- √(1 − g²)
 abbrev pub other_side : Float → Float

@@ -36,6 +36,10 @@ minus_one = neg one
 abbrev pub two : Float
 two = bits 0x4000_0000_0000_0000
 
+-- 2^-27
+abbrev pub tiny : Float
+tiny = bits 0x3E40_0000_0000_0000
+
 abbrev pub size : Float → Float
 size x = float_with_sign false x
 

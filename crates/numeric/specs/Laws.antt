@@ -6,7 +6,7 @@ use Rattle.exact.specs.Distance.{Size, Close}
 use Rattle.exact.specs.Sine.{sine, cosine}
 use Rattle.rounding.specs.Value.{val, Is}
 use Rattle.rounding.specs.Theorems.{Rounded, magnitude}
-use Rattle.numeric.specs.Floats.{bits}
+use Rattle.numeric.specs.Floats.{bits, zero, two}
 use Rattle.numeric.specs.Sine.{sin_float, cos_float}
 use Rattle.numeric.specs.ArcTangent.{atan2_float, in_unit, other_side, acos_float}
 
@@ -61,7 +61,7 @@ pub record IsAngle (t y x : Float) : Type 0 where
   -- but at the origin
   pub near : nought <ᶠ squared y x → aside t y x *ᶠ aside t y x ≤ᶠ part 88 *ᶠ squared y x
   pub ahead : nought <ᶠ squared y x → nought <ᶠ along t y x
-  pub origin : squared y x ≤ᶠ nought → t ≡ bits 0
+  pub origin : squared y x ≤ᶠ nought → t ≡ zero
   -- the sign is never opposite to that of y
   pub up : nought <ᶠ val y → nought ≤ᶠ val t
   pub down : val y <ᶠ nought → val t ≤ᶠ nought
@@ -87,4 +87,4 @@ ArcCosineLaw = (f : Float) → Is f → IsArcCosine (acos_float f) f
 -- ---- the root
 
 abbrev pub RootExample : Type 0
-RootExample = sqrt binary64 (bits 0x4000_0000_0000_0000) ≡ bits 0x3FF6_A09E_667F_3BCD
+RootExample = sqrt binary64 two ≡ bits 0x3FF6_A09E_667F_3BCD

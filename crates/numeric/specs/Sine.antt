@@ -2,7 +2,7 @@
 use Rattle.std.specs.Prelude.{ℕ, zero, suc, ◌%◌, cond, List, [], ◌∷◌, pos, Float}
 use Rattle.std.specs.Float.{binary64}
 use Rattle.std.specs.Float.Ieee.{neg, lt, of_int, to_unsigned}
-use Rattle.numeric.specs.Floats.{◌⊕◌, ◌⊖◌, ◌⊗◌, bits, size, horner, odd_polynomial}
+use Rattle.numeric.specs.Floats.{◌⊕◌, ◌⊖◌, ◌⊗◌, bits, zero as nought, half, one, tiny, size, horner, odd_polynomial}
 
 -- ---- the polynomials: r − r³/3! + … − r¹⁵/15! and 1 − r²/2! + … + r¹⁶/16!, each 1/n! the nearest f64
 
@@ -19,27 +19,20 @@ odd_inverses =
 abbrev pub sin_kernel : Float → Float
 sin_kernel r = odd_polynomial r sixth odd_inverses
 
--- 1
-abbrev pub unit : Float
-unit = bits 0x3FF0_0000_0000_0000
-
 -- 1/2!, 1/4!, … 1/16!
 abbrev pub even_inverses : List Float
 even_inverses =
-    bits 0x3FE0_0000_0000_0000 ∷ bits 0x3FA5_5555_5555_5555 ∷ bits 0x3F56_C16C_16C1_6C17 ∷ bits 0x3EFA_01A0_1A01_A01A
+    half ∷ bits 0x3FA5_5555_5555_5555 ∷ bits 0x3F56_C16C_16C1_6C17 ∷ bits 0x3EFA_01A0_1A01_A01A
     ∷ bits 0x3E92_7E4F_B778_9F5C ∷ bits 0x3E21_EED8_EFF8_D898 ∷ bits 0x3DA9_3974_A8C0_7C9D ∷ bits 0x3D2A_E7F3_E733_B81F ∷ []
 
 abbrev pub cos_kernel : Float → Float
-cos_kernel r = horner (r ⊗ r) unit even_inverses
+cos_kernel r = horner (r ⊗ r) one even_inverses
 
 -- ---- the quarter turns of an a that is not negative
 
 -- 2/P
 abbrev pub turns_per_radian : Float
 turns_per_radian = bits 0x3FE4_5F30_6DC9_C883
-
-abbrev pub half : Float
-half = bits 0x3FE0_0000_0000_0000
 
 -- a · 2/P rounded to the nearest, by adding 1/2 and cutting
 abbrev pub quarter_turns : Float → ℕ
@@ -71,13 +64,12 @@ turned k s c = quarter (k % 4) s c
 unfoldable pub upward : Float → Float × Float
 upward a = let k = quarter_turns a in let r = remainder a k in turned k (sin_kernel r) (cos_kernel r)
 
--- 2^-27
-abbrev pub tiny : Float
-tiny = bits 0x3E40_0000_0000_0000
+-- the sine of v by that of its size: below 2^-27 in size v itself; else it has the sign of v
+abbrev pub signed : Float → Float → Float
+signed v s = cond (lt (size v) tiny) v (cond (lt v nought) (neg s) s)
 
--- below 2^-27 in size the sine of v is v; else it has the sign of v
 abbrev pub sin_float : Float → Float
-sin_float v = cond (lt (size v) tiny) v (cond (lt v (bits 0)) (neg (upward (size v)).0) (upward (size v)).0)
+sin_float v = signed v (upward (size v)).0
 
 abbrev pub cos_float : Float → Float
 cos_float v = (upward (size v)).1

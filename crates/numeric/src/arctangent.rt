@@ -9,15 +9,9 @@ ghost use Rattle.numeric.specs.ArcTangent.{atan_kernel, atan_near, atan_unit, an
 ghost use Rattle.numeric.specs.Laws.{IsAngle, IsArcCosine, RootExample};
 
 use crate::checks::check_number;
+use crate::horner::{TINY, odd_polynomial};
 use fault::NumberFault;
-
-// P/2 and P, the nearest f64
-const QUARTER_TURN: f64 = 1.5707963267948966;
-
-const HALF_TURN: f64 = 3.141592653589793;
-
-// 2^-27: the cube of what is smaller is lost beside it
-const TINY: f64 = 7.450580596923828e-9;
+use std::f64::consts::{FRAC_PI_2, FRAC_PI_4, PI};
 
 // The root of any f64, rounded once to the nearest.
 pub fn sqrt(v: f64) -> f64
@@ -26,22 +20,25 @@ pub fn sqrt(v: f64) -> f64
     v.sqrt()
 }
 
+// Outwards from 1/13 to 1/3; 1/15 is the innermost.
+const ODD_PARTS: [f64; 6] = [
+    0.07692307692307693, // 1/13
+    0.09090909090909091, // 1/11
+    0.1111111111111111, // 1/9
+    0.14285714285714285, // 1/7
+    0.2, // 1/5
+    0.3333333333333333, // 1/3
+];
+
 // u − u³/3 + … − u¹⁵/15
 fn atan_kernel(u: f64) -> f64
     ensures { result ≡ atan_kernel u }
 {
-    let z = u * u;
-    let h = 0.06666666666666667; // 1/15
-    let h = 0.07692307692307693 - z * h; // 1/13
-    let h = 0.09090909090909091 - z * h; // 1/11
-    let h = 0.1111111111111111 - z * h; // 1/9
-    let h = 0.14285714285714285 - z * h; // 1/7
-    let h = 0.2 - z * h; // 1/5
-    let h = 0.3333333333333333 - z * h; // 1/3
-    u - u * (z * h)
+    odd_polynomial(u, 0.06666666666666667, &ODD_PARTS) // 1/15
 }
 
 // The arc tangent of a q near b, whose own is a.
+#[tactic(auto, unfolding(crate::specs::ArcTangent::atan_near))]
 fn atan_near(q: f64, b: f64, a: f64) -> f64
     ensures { result ≡ atan_near q b a }
 {
@@ -63,28 +60,29 @@ fn atan_unit(q: f64) -> f64
     } else if q < 0.875 {
         atan_near(q, 0.75, 0.6435011087932844)
     } else {
-        atan_near(q, 1.0, 0.7853981633974483)
+        atan_near(q, 1.0, FRAC_PI_4)
     }
 }
 
-// The angle of the point (x, y), for a y that is not negative; 0 at the origin.
+// The angle of the point (x, y), for a y that is not negative; 0 at the origin. The two numbers stand apart, as the C interface passes them.
 fn angle_up(y: f64, x: f64) -> f64
     ensures { result ≡ angle_up y x }
 {
     if x < 0.0 {
         if y <= -x {
-            HALF_TURN - atan_unit(y / -x)
+            PI - atan_unit(y / -x)
         } else {
-            QUARTER_TURN + atan_unit(-x / y)
+            FRAC_PI_2 + atan_unit(-x / y)
         }
     } else if y <= x {
         if 0.0 < x { atan_unit(y / x) } else { 0.0 }
     } else {
-        QUARTER_TURN - atan_unit(x / y)
+        FRAC_PI_2 - atan_unit(x / y)
     }
 }
 
 // The angle of the point (x, y) with no test of the numbers, for a caller that has tested them.
+#[tactic(auto, unfolding(crate::specs::ArcTangent::atan2_float))]
 pub fn atan2_raw(y: f64, x: f64) -> f64
     ensures value { result ≡ atan2_float y x }
     ensures near { Is y → Is x → IsAngle result y x }
@@ -107,6 +105,7 @@ pub fn atan2(y: f64, x: f64) -> Result<f64, NumberFault>
 }
 
 // The angle whose cosine is f with no test of f, for a caller that has tested it.
+#[tactic(auto, using(crate::proofs::ArcCosine::arc_cosine_law))]
 pub fn acos_raw(f: f64) -> f64
     ensures value { result ≡ acos_float f }
     ensures near { Is f → IsArcCosine result f }
@@ -125,6 +124,7 @@ pub fn acos_approx(f: f64) -> Result<f64, NumberFault>
 }
 
 // By the definition alone, √2 has the bits 3FF6A09E667F3BCD.
+#[tactic(auto, using(crate::proofs::Roots::root_two))]
 pub fn root_example_stands()
     ensures { RootExample }
 {}
