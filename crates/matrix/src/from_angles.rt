@@ -10,7 +10,7 @@ ghost use Rattle.matrix.specs.EulerLaws.{IsEulerMatrix};
 use crate::DMat3;
 use euler::{EulerRot, FromEuler, Order};
 use fault::RotationFault;
-use numeric::{check_angle, sin_cos_raw};
+use numeric::{check_angles, sin_cos_raw};
 
 // From the sines and cosines of the angles, as they stand to the axes i, j and k.
 fn from_sines(order: Order, first: (f64, f64), middle: (f64, f64), last: (f64, f64)) -> DMat3
@@ -72,9 +72,7 @@ impl FromEuler for DMat3 {
 
     #[tactic(auto, unfolding(crate::specs::Angles::from_euler))]
     fn from_euler_angles(euler: EulerRot, x: f64, y: f64, z: f64) -> Result<DMat3, RotationFault> {
-        check_angle(1, x)?;
-        check_angle(2, y)?;
-        check_angle(3, z)?;
+        check_angles(1, x, y, z)?;
         Ok(by_order(Order::from(euler), x, y, z))
     }
 }

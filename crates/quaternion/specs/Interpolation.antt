@@ -2,15 +2,14 @@
 use Rattle.std.specs.Prelude.{ℕ, Bool, cond, ◌&&◌, Ok, Option, Result, Float}
 use Rattle.std.specs.Float.Ieee.{neg, lt, le}
 use Rattle.std.specs.Float.{float_clamp}
-use Rattle.fault.specs.Answers.{unless, within, ◌⨾◌, answer}
+use Rattle.fault.specs.Answers.{within, ◌⨾◌, answer}
 use Rattle.fault.specs.declared.NumberFault.{NumberFault}
-use Rattle.fault.specs.declared.NumberFault.TheVariants.{TooLarge}
 use Rattle.fault.specs.declared.RotationFault.{RotationFault}
 use Rattle.fault.specs.declared.RotationFault.TheVariants.{Number}
 use Rattle.exact.specs.Quat.{Quat, dot, plus, scale}
 use Rattle.rounding.specs.Value.{floats}
 use Rattle.numeric.specs.Floats.{◌⊖◌, ◌⊗◌, ◌⊘◌, bits, size, zero, one, minus_one, two}
-use Rattle.numeric.specs.Tests.{number_fault, angle_fault}
+use Rattle.numeric.specs.Tests.{size_fault, angle_fault}
 use Rattle.numeric.specs.Sine.{sin_float}
 use Rattle.numeric.specs.ArcTangent.{acos_float}
 use Rattle.vectors.specs.Vectors.{normal, normal_fault}
@@ -22,7 +21,7 @@ use Rattle.quaternion.specs.Quaternions.{whole}
 
 -- 1, then 2 above 300 in size
 abbrev pub share_fault : ℕ → Float → Option NumberFault
-share_fault at s = number_fault at s ⨾ unless (le (size s) (bits 0x4072_C000_0000_0000)) (TooLarge at)
+share_fault at s = size_fault (bits 0x4072_C000_0000_0000) at s
 
 -- two quaternions and a share
 abbrev pub pair_fault : Quat Float → Quat Float → Float → Option RotationFault

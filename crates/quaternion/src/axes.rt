@@ -11,10 +11,9 @@ ghost use Rattle.quaternion.specs.Axes.{finite_fault, length_fault, axis_turn, a
 use crate::DQuat;
 use fault::{NumberFault, RotationFault};
 use matrix::DMat3;
-use numeric::{atan2_raw, check_angle, sin_cos_raw, sqrt};
+use numeric::{LARGEST_ANGLE, atan2_raw, check_angle, sin_cos_raw, sqrt};
+use std::f64::consts::PI;
 use vectors::{DVec2, DVec3, DVec4, Vector};
-
-const LARGEST_ANGLE: f64 = 1000.0;
 
 // ---- an axis and an angle
 
@@ -211,8 +210,6 @@ impl DQuat {
 
 const NEARLY_ONE: f64 = 0.9999999999999996;
 
-const HALF_CIRCLE: f64 = 3.141592653589793;
-
 const TINY_SQUARE: f64 = 3.552713678800501e-15;
 
 fn opposed(dot: f64, square: f64) -> bool
@@ -228,7 +225,7 @@ fn around(from: DVec3) -> Result<DQuat, RotationFault>
 {
     let axis = from.orthonormal_raw();
     axis.check_normalized(0)?;
-    Ok(axis_turn(axis, HALF_CIRCLE))
+    Ok(axis_turn(axis, PI))
 }
 
 #[tactic(auto, unfolding(crate::specs::Axes::across_answer))]

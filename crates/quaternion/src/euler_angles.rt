@@ -9,7 +9,7 @@ ghost use Rattle.quaternion.specs.Euler.{from_euler};
 use crate::DQuat;
 use euler::{EulerRot, FromEuler, Order};
 use fault::RotationFault;
-use numeric::{check_angle, sin_cos_raw};
+use numeric::{check_angles, sin_cos_raw};
 
 // From the sines and cosines of half the angles, as they stand to the axes i, j and k.
 fn from_halves(order: Order, first: (f64, f64), middle: (f64, f64), last: (f64, f64)) -> DQuat
@@ -62,9 +62,7 @@ impl FromEuler for DQuat {
 
     #[tactic(auto, unfolding(crate::specs::Euler::from_euler))]
     fn from_euler_angles(euler: EulerRot, x: f64, y: f64, z: f64) -> Result<DQuat, RotationFault> {
-        check_angle(1, x)?;
-        check_angle(2, y)?;
-        check_angle(3, z)?;
+        check_angles(1, x, y, z)?;
         Ok(by_order(Order::from(euler), x, y, z))
     }
 }

@@ -2,26 +2,15 @@
 ghost use Rattle.std.specs.Prelude.{◌≡◌};
 ghost use Rattle.fault.specs.Answers.{answer, tested};
 ghost use Rattle.quaternion.specs.Quaternions.{parts, whole};
-ghost use Rattle.quaternion.specs.Interpolation.{pair_fault, share_fault, between_fault, towards_fault, between, mixed_answer, lerp_answer, swept, nearer, reaches, way, slerp_answer, slerp_long_answer, towards_answer};
+ghost use Rattle.quaternion.specs.Interpolation.{pair_fault, between_fault, towards_fault, between, mixed_answer, lerp_answer, swept, nearer, reaches, way, slerp_answer, slerp_long_answer, towards_answer};
 
 use crate::DQuat;
-use fault::{NumberFault, RotationFault};
-use numeric::{acos_raw, check_angle, check_number, sin_cos_raw};
+use fault::RotationFault;
+use numeric::{acos_raw, check_angle, check_size, sin_cos_raw};
 use vectors::Vector;
 
 // A share of more than 300 in size is refused: the angles that it makes stay below 1000.
 const LARGEST_SHARE: f64 = 300.0;
-
-fn check_share(argument: u8, s: f64) -> Result<(), NumberFault>
-    ensures { result ≡ answer (share_fault argument s) tt }
-{
-    check_number(argument, s)?;
-    if s.abs() <= LARGEST_SHARE {
-        Ok(())
-    } else {
-        Err(NumberFault::TooLarge(argument))
-    }
-}
 
 impl DQuat {
     // Tests for a way from `self` to `end` by the share `s`.
@@ -30,13 +19,11 @@ impl DQuat {
     {
         self.check_finite(0)?;
         end.check_finite(1)?;
-        check_share(2, s)?;
+        check_size(2, s, LARGEST_SHARE)?;
         self.check_normalized(0)?;
         end.check_normalized(1)
     }
-}
 
-impl DQuat {
     // The angle (in radians) for the minimal rotation from `self` to `rhs`, which are to be normalised.
     pub fn angle_between(self, rhs: DQuat) -> Result<f64, RotationFault>
         ensures { result ≡ answer (between_fault (parts self) (parts rhs)) (between (parts self) (parts rhs)) }
