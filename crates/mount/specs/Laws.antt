@@ -11,12 +11,11 @@ use Rattle.rounding.specs.Value.{val}
 use Rattle.euler.specs.Orders.{letters}
 use Rattle.drift.specs.Turns as F
 use Rattle.drift.specs.Drift.{UnitAt, Stands}
-use Rattle.drift.proofs.Standing.{turn_unit, turn_stands, aim_stands}
-use Rattle.drift.proofs.EulerTurns.{order_turn}
-use Rattle.drift.proofs.About.{turn_law}
+use Rattle.drift.proofs.Standing.{turn_unit, turn_stands}
+use Rattle.drift.proofs.Standing as S
 use Rattle.mount.specs.Facts.{deepest}
 use Rattle.mount.specs.Layers.{over, deeper, Over, set_turn, set_truth, set_floats, aim_truth, aim_floats}
-use Rattle.mount.specs.Passing.{set_angles, aim_angles}
+use Rattle.mount.specs.Passing.{set_fair, aim_turns}
 use Rattle.mount.specs.declared.settings.Setting.{Setting}
 use Rattle.mount.specs.declared.settings.Aim.{Aim}
 
@@ -57,36 +56,23 @@ module _ {S : Type 0} (more d : ℕ) (f : S → Quat Frac → Quat Frac) (t : Qu
       go true e is = subst (λ q. Stands (d + more) q (f s t)) (sym is) (k s h.0 (leb-true _ _ e) (below h.0 h.1.0))
       go false e is = subst (λ q. Stands d q t) (sym is) (below h.0 h.1.0)
 
--- ---- a bracket
+-- ---- the turn of a bracket
 
-pub bracket_unit : (d : ℕ) (t : Quat Frac) (o : Option Setting) → UnitAt d t → UnitAt (deeper 1 o d) (over 1 d set_truth o t)
+pub set_unit : (d : ℕ) (t : Quat Frac) → UnitAt d t → (s : Setting) → d + 1 ≤ deepest → UnitAt (d + 1) (set_truth s t)
 unfolding computes
-bracket_unit d t o h =
-    layer_unit 1 d set_truth t o h
-    (λ s l. turn_unit d t (exact_turn (letters s.name) (val s.a) (val s.b) (val s.c)) (omega arith) h (near_≤ (exact_turn_length (letters s.name) (val s.a) (val s.b) (val s.c)) (closed tt)))
+set_unit d t h s l = turn_unit d t (exact_turn (letters s.name) (val s.a) (val s.b) (val s.c)) (omega arith) h (near_≤ (exact_turn_length (letters s.name) (val s.a) (val s.b) (val s.c)) (closed tt))
 
-pub bracket_stands : (d : ℕ) (t : Quat Frac) (o : Option Setting) (P : Quat Float → Type 0) (q : Quat Float) → Over 1 d set_floats o P q → ((m : Quat Float) → P m → Stands d m t) → Stands (deeper 1 o d) q (over 1 d set_truth o t)
-bracket_stands d t o P q h below =
-    layer_stands 1 d set_truth t set_floats o P q h below
-    (λ s m l k.
-    let angles = set_angles s.a s.b s.c s.fits_a s.fits_b s.fits_c s.fine in
-    turn_stands d m (set_turn s) t (exact_turn (letters s.name) (val s.a) (val s.b) (val s.c)) (omega arith) k
-    (order_turn s.name s.a s.b s.c angles.0 angles.1 angles.2))
+pub set_stands : (d : ℕ) (t : Quat Frac) (s : Setting) (m : Quat Float) → d + 1 ≤ deepest → Stands d m t → Stands (d + 1) (set_floats s m) (set_truth s t)
+set_stands d t s m l k = turn_stands d m (set_turn s) t (exact_turn (letters s.name) (val s.a) (val s.b) (val s.c)) (omega arith) k (set_fair s).0
 
--- ---- a yoke
+-- ---- the two of a yoke
 
-pub yoke_unit : (d : ℕ) (t : Quat Frac) (o : Option Aim) → UnitAt d t → UnitAt (deeper 2 o d) (over 2 d aim_truth o t)
+pub aim_unit : (d : ℕ) (t : Quat Frac) → UnitAt d t → (s : Aim) → d + 2 ≤ deepest → UnitAt (d + 2) (aim_truth s t)
 unfolding computes
-yoke_unit d t o h =
-    layer_unit 2 d aim_truth t o h
-    (λ s l.
+aim_unit d t h s l =
     let panned = turn_unit d t (about Z (val s.pan)) (omega arith) h (near_≤ (about_length Z (val s.pan)) (closed tt)) in
     subst (λ (n : ℕ). UnitAt n (aim_truth s t)) (add_assoc d 1 1)
-    (turn_unit (d + 1) (product fractions t (about Z (val s.pan))) (about X (val s.tilt)) (omega arith) panned (near_≤ (about_length X (val s.tilt)) (closed tt))))
+    (turn_unit (d + 1) (product fractions t (about Z (val s.pan))) (about X (val s.tilt)) (omega arith) panned (near_≤ (about_length X (val s.tilt)) (closed tt)))
 
-pub yoke_stands : (d : ℕ) (t : Quat Frac) (o : Option Aim) (P : Quat Float → Type 0) (q : Quat Float) → Over 2 d aim_floats o P q → ((m : Quat Float) → P m → Stands d m t) → Stands (deeper 2 o d) q (over 2 d aim_truth o t)
-yoke_stands d t o P q h below =
-    layer_stands 2 d aim_truth t aim_floats o P q h below
-    (λ s m l k.
-    let angles = aim_angles s.pan s.tilt s.fits_pan s.fits_tilt s.fine in
-    aim_stands d m (F.about Z s.pan) (F.about X s.tilt) t s.pan s.tilt (omega arith) k (turn_law Z s.pan angles.0).0 (turn_law X s.tilt angles.1).0)
+pub aim_stands : (d : ℕ) (t : Quat Frac) (s : Aim) (m : Quat Float) → d + 2 ≤ deepest → Stands d m t → Stands (d + 2) (aim_floats s m) (aim_truth s t)
+aim_stands d t s m l k = S.aim_stands d m (F.about Z s.pan) (F.about X s.tilt) t s.pan s.tilt (omega arith) k (aim_turns s).0.0 (aim_turns s).1.0

@@ -19,8 +19,16 @@ use Rattle.numeric.specs.Tests.{number_fault, angle_fault, largest_angle}
 use Rattle.numeric.specs.Laws.{Angle}
 use Rattle.numeric.proofs.Tests.{number_is, angle_is}
 use Rattle.numeric.proofs.Sines.{sized, size_within}
-use Rattle.drift.specs.Tests.{euler_fault}
+use Rattle.exact.specs.Turn.{X, Z, exact_turn}
+use Rattle.euler.specs.Orders.{letters, order}
+use Rattle.drift.specs.Tests.{turn_fault, euler_fault}
+use Rattle.drift.specs.Turns as F
+use Rattle.drift.specs.Laws.{IsTurn, Fair}
+use Rattle.drift.proofs.About.{turn_law}
+use Rattle.drift.proofs.EulerTurns.{order_turn}
 use Rattle.mount.specs.Facts.{angles_fault, swing_fault, swings_fault}
+use Rattle.mount.specs.declared.settings.Setting.{Setting}
+use Rattle.mount.specs.declared.settings.Aim.{Aim}
 
 -- ---- a bracket's angles
 
@@ -48,6 +56,12 @@ set_angles a b c fa fb fc h =
     one : (at : ℕ) (v : Float) → T (fits binary64 v) → clear (angle_fault at v) ≡ true → Angle v
     one at v f h = angle_is v (number_is v f (clear_unless (float_is_finite v) _ (clear_first (number_fault at v) _ h))) (clear_unless (le (size v) largest_angle) _ (clear_next (number_fault at v) _ h))
 
+-- so that its turn is made, and fair
+pub set_fair : (s : Setting) → Fair (F.by_order (order s.name) s.a s.b s.c) (exact_turn (letters s.name) (val s.a) (val s.b) (val s.c)) × (euler_fault s.a s.b s.c ≡ None)
+set_fair s =
+    let angles = set_angles s.a s.b s.c s.fits_a s.fits_b s.fits_c s.fine in
+    (order_turn s.name s.a s.b s.c angles.0 angles.1 angles.2, set_passes s.a s.b s.c s.fine)
+
 -- ---- a yoke's
 
 ten : Exact (bits 0x4024_0000_0000_0000) (num 10)
@@ -65,3 +79,9 @@ pub aim_angles : (pan tilt : Float) → T (fits binary64 pan) → T (fits binary
 aim_angles pan tilt fp ft h =
     let all = clear_within Number (swing_fault 1 pan ⨾ swing_fault 2 tilt) h in
     (swing_angle 1 pan fp (clear_first (swing_fault 1 pan) (swing_fault 2 tilt) all), swing_angle 2 tilt ft (clear_next (swing_fault 1 pan) (swing_fault 2 tilt) all))
+
+-- so that its turns are made
+pub aim_turns : (s : Aim) → (IsTurn Z s.pan (F.about Z s.pan) × (turn_fault s.pan ≡ None)) × (IsTurn X s.tilt (F.about X s.tilt) × (turn_fault s.tilt ≡ None))
+aim_turns s =
+    let angles = aim_angles s.pan s.tilt s.fits_pan s.fits_tilt s.fine in
+    (turn_law Z s.pan angles.0, turn_law X s.tilt angles.1)
