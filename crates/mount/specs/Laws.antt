@@ -14,7 +14,7 @@ use Rattle.drift.specs.Drift.{UnitAt, Stands}
 use Rattle.drift.proofs.Standing.{turn_unit, turn_stands}
 use Rattle.drift.proofs.Standing as S
 use Rattle.mount.specs.Facts.{deepest}
-use Rattle.mount.specs.Layers.{over, deeper, Over, set_turn, set_truth, set_floats, aim_truth, aim_floats}
+use Rattle.mount.specs.Layers.{room, over, deeper, Over, set_turn, set_truth, set_floats, aim_truth, aim_floats}
 use Rattle.mount.specs.Passing.{set_fair, aim_turns}
 use Rattle.mount.specs.declared.settings.Setting.{Setting}
 use Rattle.mount.specs.declared.settings.Aim.{Aim}
@@ -29,32 +29,31 @@ floor_unit = search rules
 
 -- ---- any layer
 
+-- by whether there is room
+by_room : (more d : ℕ) (P : Bool → Type 0) → (d + more ≤ deepest → P true) → P false → P (room more d)
+by_room more d P fits full = go (room more d) refl
+  where
+    go : (b : Bool) → room more d ≡ b → P b
+    go true e = fits (leb-true _ _ e)
+    go false e = full
+
 pub layer_shallow : {S : Type 0} (more d : ℕ) (o : Option S) → d ≤ deepest → deeper more o d ≤ deepest
 layer_shallow more d None h = h
-layer_shallow more d (Some s) h = go (nat_le (d + more) deepest) refl
-  where
-    go : (b : Bool) → nat_le (d + more) deepest ≡ b → cond b (d + more) d ≤ deepest
-    go true e = leb-true _ _ e
-    go false e = h
+layer_shallow more d (Some s) h = by_room more d (λ b. cond b (d + more) d ≤ deepest) (λ l. l) h
 
 -- by what a layer does where it is set
 module _ {S : Type 0} (more d : ℕ) (f : S → Quat Frac → Quat Frac) (t : Quat Frac) where
   pub layer_unit : (o : Option S) → UnitAt d t → ((s : S) → d + more ≤ deepest → UnitAt (d + more) (f s t)) → UnitAt (deeper more o d) (over more d f o t)
   layer_unit None h k = h
-  layer_unit (Some s) h k = go (nat_le (d + more) deepest) refl
-    where
-      go : (b : Bool) → nat_le (d + more) deepest ≡ b → UnitAt (cond b (d + more) d) (cond b (f s t) t)
-      go true e = k s (leb-true _ _ e)
-      go false e = h
+  layer_unit (Some s) h k = by_room more d (λ b. UnitAt (cond b (d + more) d) (cond b (f s t) t)) (k s) h
 
   pub layer_stands : (F : S → Quat Float → Quat Float) (o : Option S) (P : Quat Float → Type 0) (q : Quat Float) → Over more d F o P q → ((m : Quat Float) → P m → Stands d m t)
       → ((s : S) (m : Quat Float) → d + more ≤ deepest → Stands d m t → Stands (d + more) (F s m) (f s t)) → Stands (deeper more o d) q (over more d f o t)
   layer_stands F None P q h below k = below q h
-  layer_stands F (Some s) P q h below k = go (nat_le (d + more) deepest) refl h.1.1
-    where
-      go : (b : Bool) → nat_le (d + more) deepest ≡ b → q ≡ cond b (F s h.0) h.0 → Stands (cond b (d + more) d) q (cond b (f s t) t)
-      go true e is = subst (λ q. Stands (d + more) q (f s t)) (sym is) (k s h.0 (leb-true _ _ e) (below h.0 h.1.0))
-      go false e is = subst (λ q. Stands d q t) (sym is) (below h.0 h.1.0)
+  layer_stands F (Some s) P q h below k =
+      let m = below h.0 h.1.0 in
+      subst (λ q. Stands (deeper more (Some s) d) q (over more d f (Some s) t)) (sym h.1.1)
+      (by_room more d (λ b. Stands (cond b (d + more) d) (cond b (F s h.0) h.0) (cond b (f s t) t)) (λ l. k s h.0 l m) m)
 
 -- ---- the turn of a bracket
 

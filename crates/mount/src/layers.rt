@@ -1,9 +1,8 @@
 // Layers over any mount. A layer holds the mount below by value and lends it to nobody, so that what stands below it stays as it is.
-ghost use Rattle.std.specs.Prelude.{◌≡◌, ◌+◌, None, nat_le};
-ghost use Rattle.fault.specs.Answers.{unless, answer};
-ghost use Rattle.fault.specs.declared.RigFault.TheVariants.{TooDeep};
-ghost use Rattle.mount.specs.Facts.{deepest, angles_fault, swings_fault};
-ghost use Rattle.mount.specs.Layers.{over, deeper, layer_fault, Over, IsSet, IsPointed, Decided};
+ghost use Rattle.std.specs.Prelude.{◌≡◌, true, None};
+ghost use Rattle.fault.specs.Answers.{answer};
+ghost use Rattle.mount.specs.Facts.{angles_fault, swings_fault};
+ghost use Rattle.mount.specs.Layers.{over, deeper, has_room, room_fault, layer_fault, Over, IsSet, IsPointed, Decided};
 ghost use Rattle.mount.specs.Laws.{layer_shallow, layer_unit, layer_stands};
 
 use crate::below::{Mount, DEEPEST};
@@ -18,6 +17,7 @@ use quaternion::DQuat;
 pub struct Layer<M: Mount, T: Turning> {
     below: M,
     set: Option<T>,
+    ghost room: { has_room T.Turning.STEPS set (M.Mount.deep below) ≡ true },
 }
 
 // A bracket: flat, or set to a turn of an order.
@@ -35,16 +35,10 @@ impl<M: Mount, T: Turning> Layer<M, T> {
     }
 
     // Whether a turn may be set without passing the deepest depth.
-    fn has_room(&self) -> bool
-        ensures { result ≡ nat_le (M.Mount.deep self.now.below + T.Turning.STEPS) deepest }
-    {
-        T::STEPS <= DEEPEST - self.below.depth()
-    }
-
     fn check_room(&self) -> Result<(), RigFault>
-        ensures { result ≡ answer (unless (nat_le (M.Mount.deep self.now.below + T.Turning.STEPS) deepest) (TooDeep 0)) tt }
+        ensures { result ≡ answer (room_fault T.Turning.STEPS (M.Mount.deep self.now.below)) tt }
     {
-        if self.has_room() {
+        if T::STEPS <= DEEPEST - self.below.depth() {
             Ok(())
         } else {
             Err(RigFault::TooDeep(0))
@@ -92,16 +86,16 @@ impl<M: Mount, T: Turning> Mount for Layer<M, T> {
     fn orientation(&self) -> DQuat {
         let below = self.below.orientation();
         match self.set {
-            Some(turn) if self.has_room() => turn.over(below),
-            _ => below,
+            None => below,
+            Some(turn) => turn.over(below),
         }
     }
 
     fn depth(&self) -> u8 {
         let below = self.below.depth();
         match self.set {
-            Some(_) if self.has_room() => below + T::STEPS,
-            _ => below,
+            None => below,
+            Some(_) => below + T::STEPS,
         }
     }
 }
