@@ -15,7 +15,7 @@ use Rattle.drift.proofs.Standing.{turn_unit, turn_stands}
 use Rattle.drift.proofs.Standing as S
 use Rattle.mount.specs.Facts.{deepest}
 use Rattle.mount.specs.Layers.{room, over, deeper, Over, set_turn, set_truth, set_floats, aim_truth, aim_floats}
-use Rattle.mount.specs.Passing.{set_fair, aim_turns}
+use Rattle.mount.specs.Passing.{set_fair, pan_is, tilt_is}
 use Rattle.mount.specs.declared.settings.Setting.{Setting}
 use Rattle.mount.specs.declared.settings.Aim.{Aim}
 
@@ -62,7 +62,7 @@ unfolding computes
 set_unit d t h s l = turn_unit d t (exact_turn (letters s.name) (val s.a) (val s.b) (val s.c)) (omega arith) h (near_≤ (exact_turn_length (letters s.name) (val s.a) (val s.b) (val s.c)) (closed tt))
 
 pub set_stands : (d : ℕ) (t : Quat Frac) (s : Setting) (m : Quat Float) → d + 1 ≤ deepest → Stands d m t → Stands (d + 1) (set_floats s m) (set_truth s t)
-set_stands d t s m l k = turn_stands d m (set_turn s) t (exact_turn (letters s.name) (val s.a) (val s.b) (val s.c)) (omega arith) k (set_fair s).0
+set_stands d t s m l k = turn_stands d m (set_turn s) t (exact_turn (letters s.name) (val s.a) (val s.b) (val s.c)) (omega arith) k (set_fair s)
 
 -- ---- the two of a yoke
 
@@ -74,4 +74,4 @@ aim_unit d t h s l =
     (turn_unit (d + 1) (product fractions t (about Z (val s.pan))) (about X (val s.tilt)) (omega arith) panned (near_≤ (about_length X (val s.tilt)) (closed tt)))
 
 pub aim_stands : (d : ℕ) (t : Quat Frac) (s : Aim) (m : Quat Float) → d + 2 ≤ deepest → Stands d m t → Stands (d + 2) (aim_floats s m) (aim_truth s t)
-aim_stands d t s m l k = S.aim_stands d m (F.about Z s.pan) (F.about X s.tilt) t s.pan s.tilt (omega arith) k (aim_turns s).0.0 (aim_turns s).1.0
+aim_stands d t s m l k = S.aim_stands d m (F.about Z s.pan) (F.about X s.tilt) t s.pan s.tilt (omega arith) k (pan_is s) (tilt_is s)

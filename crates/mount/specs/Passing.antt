@@ -56,11 +56,11 @@ set_angles a b c fa fb fc h =
     one : (at : ℕ) (v : Float) → T (fits binary64 v) → clear (angle_fault at v) ≡ true → Angle v
     one at v f h = angle_is v (number_is v f (clear_unless (float_is_finite v) _ (clear_first (number_fault at v) _ h))) (clear_unless (le (size v) largest_angle) _ (clear_next (number_fault at v) _ h))
 
--- so that its turn is made, and fair
-pub set_fair : (s : Setting) → Fair (F.by_order (order s.name) s.a s.b s.c) (exact_turn (letters s.name) (val s.a) (val s.b) (val s.c)) × (euler_fault s.a s.b s.c ≡ None)
+-- so that its turn is fair
+pub set_fair : (s : Setting) → Fair (F.by_order (order s.name) s.a s.b s.c) (exact_turn (letters s.name) (val s.a) (val s.b) (val s.c))
 set_fair s =
     let angles = set_angles s.a s.b s.c s.fits_a s.fits_b s.fits_c s.fine in
-    (order_turn s.name s.a s.b s.c angles.0 angles.1 angles.2, set_passes s.a s.b s.c s.fine)
+    order_turn s.name s.a s.b s.c angles.0 angles.1 angles.2
 
 -- ---- a yoke's
 
@@ -81,7 +81,18 @@ aim_angles pan tilt fp ft h =
     (swing_angle 1 pan fp (clear_first (swing_fault 1 pan) (swing_fault 2 tilt) all), swing_angle 2 tilt ft (clear_next (swing_fault 1 pan) (swing_fault 2 tilt) all))
 
 -- so that its turns are made
-pub aim_turns : (s : Aim) → (IsTurn Z s.pan (F.about Z s.pan) × (turn_fault s.pan ≡ None)) × (IsTurn X s.tilt (F.about X s.tilt) × (turn_fault s.tilt ≡ None))
-aim_turns s =
-    let angles = aim_angles s.pan s.tilt s.fits_pan s.fits_tilt s.fine in
-    (turn_law Z s.pan angles.0, turn_law X s.tilt angles.1)
+module _ (s : Aim) where
+  angles : Angle s.pan × Angle s.tilt
+  angles = aim_angles s.pan s.tilt s.fits_pan s.fits_tilt s.fine
+
+  pub pan_is : IsTurn Z s.pan (F.about Z s.pan)
+  pan_is = (turn_law Z s.pan angles.0).0
+
+  pub tilt_is : IsTurn X s.tilt (F.about X s.tilt)
+  tilt_is = (turn_law X s.tilt angles.1).0
+
+  pub pan_passes : turn_fault s.pan ≡ None
+  pan_passes = (turn_law Z s.pan angles.0).1
+
+  pub tilt_passes : turn_fault s.tilt ≡ None
+  tilt_passes = (turn_law X s.tilt angles.1).1

@@ -88,6 +88,7 @@ impl Turning for Setting {
 
     const STEPS: u8 = 1;
 
+    #[tactic(auto, unfolding(quaternion::specs::Euler::from_euler))]
     fn over(self, below: DQuat) -> DQuat {
         let turn = DQuat::from_euler(self.name, self.a, self.b, self.c).unwrap();
         step(below, turn)
@@ -108,6 +109,7 @@ impl Turning for Aim {
 
     const STEPS: u8 = 2;
 
+    #[tactic(auto, using(crate::specs::Passing::pan_passes, crate::specs::Passing::tilt_passes, crate::specs::Passing::pan_is, crate::specs::Passing::tilt_is))]
     fn over(self, below: DQuat) -> DQuat {
         let pan = DQuat::from_rotation_z(self.pan).unwrap();
         let tilt = DQuat::from_rotation_x(self.tilt).unwrap();
