@@ -1,5 +1,5 @@
--- The laws that the trait asks of each kind of mount.
-use Rattle.std.specs.Prelude.{◌≡◌, ℕ, ◌+◌, ◌≤◌, Bool, true, false, cond, Some, None, Option, nat_le, refl, Float}
+-- The laws that the traits ask: of the floor, of any layer, and of each kind of turn.
+use Rattle.std.specs.Prelude.{◌≡◌, ℕ, ◌+◌, ◌≤◌, Bool, true, false, cond, Some, None, Option, refl, Float}
 use Rattle.std.proofs.Common.{sym, subst, leb-true, arith, rules, add_assoc}
 use Rattle.exact.specs.Fraction.{Frac}
 use Rattle.exact.specs.Quat.{Quat, fractions, product}

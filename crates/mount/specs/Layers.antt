@@ -19,6 +19,7 @@ use Rattle.mount.specs.declared.settings.Aim.{Aim}
 -- ---- any layer: with a setting s over a mount of depth d it is `more` deeper; without one it is as the mount below.
 -- A setting that would pass the deepest depth is never made, and would count for nothing
 
+-- over a mount of depth d there is room for `more`
 abbrev pub room : ℕ → ℕ → Bool
 room more d = nat_le (d + more) deepest
 

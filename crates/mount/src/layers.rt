@@ -5,9 +5,9 @@ ghost use Rattle.mount.specs.Facts.{angles_fault, swings_fault};
 ghost use Rattle.mount.specs.Layers.{over, deeper, has_room, room_fault, layer_fault, Over, IsSet, IsPointed, Decided};
 ghost use Rattle.mount.specs.Laws.{layer_shallow, layer_unit, layer_stands};
 
-use crate::below::{Mount, DEEPEST};
+use crate::below::{DEEPEST, Mount};
 use crate::settings::{Aim, Setting};
-use crate::turning::{check_angles, check_swings, Turning};
+use crate::turning::{Turning, check_angles, check_swings};
 use euler::EulerRot;
 use fault::RigFault;
 use quaternion::DQuat;
@@ -17,6 +17,7 @@ use quaternion::DQuat;
 pub struct Layer<M: Mount, T: Turning> {
     below: M,
     set: Option<T>,
+    // what would pass the deepest depth is never set
     ghost room: { has_room T.Turning.STEPS set (M.Mount.deep below) ≡ true },
 }
 
@@ -34,7 +35,7 @@ impl<M: Mount, T: Turning> Layer<M, T> {
         Layer { below, set: None }
     }
 
-    // Whether a turn may be set without passing the deepest depth.
+    // Refuses a turn that would pass the deepest depth.
     fn check_room(&self) -> Result<(), RigFault>
         ensures { result ≡ answer (room_fault T.Turning.STEPS (M.Mount.deep self.now.below)) tt }
     {

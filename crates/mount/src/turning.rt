@@ -54,7 +54,7 @@ fn step(below: DQuat, turn: DQuat) -> DQuat
     below.turned(turn).unwrap()
 }
 
-// What a layer can be set to: a turn of the orientation below, in exact numbers and in floats.
+// What a layer can be set to: a turn of the orientation below, in exact numbers and in floats. A new kind of layer is an `impl` of this.
 pub trait Turning: Copy {
     // how much deeper the layer stands
     ghost STEPS: { ℕ };
@@ -109,7 +109,7 @@ impl Turning for Aim {
 
     const STEPS: u8 = 2;
 
-    #[tactic(auto, using(crate::specs::Passing::pan_passes, crate::specs::Passing::tilt_passes, crate::specs::Passing::pan_is, crate::specs::Passing::tilt_is))]
+    #[tactic(auto, using(crate::specs::Passing::aim_turns))]
     fn over(self, below: DQuat) -> DQuat {
         let pan = DQuat::from_rotation_z(self.pan).unwrap();
         let tilt = DQuat::from_rotation_x(self.tilt).unwrap();
