@@ -2,7 +2,8 @@
 ghost use Rattle.std.specs.Prelude.{◌≡◌, ℕ, ◌+◌, ◌≤◌, Float};
 ghost use Rattle.fault.specs.Answers.{answer};
 ghost use Rattle.exact.specs.Fraction.{Frac};
-ghost use Rattle.exact.specs.Quat.{Quat};
+ghost use Rattle.exact.specs.Quat.{Quat, product};
+ghost use Rattle.rounding.specs.Value.{floats};
 ghost use Rattle.drift.specs.Laws.{Kept, Sound, turned};
 ghost use Rattle.drift.specs.Drift.{UnitAt, Stands};
 ghost use Rattle.quaternion.specs.Quaternions.{parts};
@@ -54,6 +55,16 @@ fn step(below: DQuat, turn: DQuat) -> DQuat
     below.turned(turn).unwrap()
 }
 
+// `below` turned by two turns that are kept, normalised once.
+fn two_steps(below: DQuat, first: DQuat, second: DQuat) -> DQuat
+    requires below { Kept (parts below) }
+    requires first { Kept (parts first) }
+    requires second { Kept (parts second) }
+    ensures { parts result ≡ turned (product floats (parts below) (parts first)) (parts second) }
+{
+    step(below.mul_quat(first), second)
+}
+
 // What a layer can be set to: a turn of the orientation below, in exact numbers and in floats. A new kind of layer is an `impl` of this.
 pub trait Turning: Copy {
     // how much deeper the layer stands
@@ -95,7 +106,7 @@ impl Turning for Setting {
     }
 }
 
-// Pan and tilt, normalised once.
+// Pan, then tilt.
 impl Turning for Aim {
     ghost STEPS = { 2 };
 
@@ -113,6 +124,6 @@ impl Turning for Aim {
     fn over(self, below: DQuat) -> DQuat {
         let pan = DQuat::from_rotation_z(self.pan).unwrap();
         let tilt = DQuat::from_rotation_x(self.tilt).unwrap();
-        step(below.mul_quat(pan), tilt)
+        two_steps(below, pan, tilt)
     }
 }
