@@ -1,5 +1,5 @@
 -- Layers over a mount: what they make of its true orientation, its depth and its answer.
-use Rattle.std.specs.Prelude.{◌≡◌, ℕ, ◌+◌, cond, Some, None, Ok, Err, Option, Result, nat_le, Float}
+use Rattle.std.specs.Prelude.{◌≡◌, ℕ, ◌+◌, Bool, true, cond, Some, None, Ok, Err, Option, Result, nat_le, Float}
 use Rattle.fault.specs.Answers.{unless, within, ◌⨾◌}
 use Rattle.fault.specs.declared.RotationFault.{RotationFault}
 use Rattle.fault.specs.declared.RigFault.{RigFault}
@@ -19,16 +19,28 @@ use Rattle.mount.specs.declared.settings.Aim.{Aim}
 -- ---- any layer: with a setting s over a mount of depth d it is `more` deeper; without one it is as the mount below.
 -- A setting that would pass the deepest depth is never made, and would count for nothing
 
+-- over a mount of depth d there is room for `more`
+abbrev pub room : ℕ → ℕ → Bool
+room more d = nat_le (d + more) deepest
+
 abbrev pub over : {S A : Type 0} → ℕ → ℕ → (S → A → A) → Option S → A → A
 over more d f None below = below
-over more d f (Some s) below = cond (nat_le (d + more) deepest) (f s below) below
+over more d f (Some s) below = cond (room more d) (f s below) below
 
 abbrev pub deeper : {S : Type 0} → ℕ → Option S → ℕ → ℕ
 deeper more o d = over more d (λ s n. n + more) o d
 
+-- there is room for what is set
+abbrev pub has_room : {S : Type 0} → ℕ → Option S → ℕ → Bool
+has_room more None d = true
+has_room more (Some s) d = room more d
+
 -- what turns a setting away: its own refusals, then the depth below
+abbrev pub room_fault : ℕ → ℕ → Option RigFault
+room_fault more d = unless (room more d) (TooDeep 0)
+
 abbrev pub layer_fault : ℕ → ℕ → Option RotationFault → Option RigFault
-layer_fault more d f = within Rotation f ⨾ unless (nat_le (d + more) deepest) (TooDeep 0)
+layer_fault more d f = within Rotation f ⨾ room_fault more d
 
 -- q is the layer's answer where the mount below may answer as P says
 abbrev pub Over : {S : Type 0} → ℕ → ℕ → (S → Quat Float → Quat Float) → Option S → (Quat Float → Type 0) → Quat Float → Type 0

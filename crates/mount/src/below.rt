@@ -11,6 +11,9 @@ ghost use Rattle.mount.specs.Laws.{floor_shallow, floor_unit};
 
 use quaternion::DQuat;
 
+// The depth of a mount at most.
+pub(crate) const DEEPEST: u8 = 12;
+
 // A mount means a true orientation and a depth, both fixed by what it holds now. Its answer lies near the true orientation.
 pub trait Mount {
     ghost truth: { Self → Quat Frac };

@@ -7,5 +7,5 @@ mod settings;
 mod turning;
 
 pub use below::{Floor, Mount};
-pub use layers::{Bracket, Yoke};
+pub use layers::{Bracket, Layer, Yoke};
 pub use settings::{Aim, Setting};
