@@ -8,7 +8,7 @@ use Rattle.fault.specs.declared.RotationFault.TheVariants.{Number, NotNormalized
 use Rattle.exact.specs.Quat.{Quat, square}
 use Rattle.exact.specs.Vector.{Vec}
 use Rattle.rounding.specs.Value.{floats}
-use Rattle.numeric.specs.Tests.{angle_fault}
+use Rattle.numeric.specs.Tests.{angle_fault, angles_fault}
 use Rattle.vectors.specs.Vectors.{finite3, finite4, unit}
 
 -- one angle
@@ -17,7 +17,7 @@ turn_fault angle = within Number (angle_fault 0 angle)
 
 -- three angles, in the order written
 abbrev pub euler_fault : Float → Float → Float → Option RotationFault
-euler_fault x y z = within Number (angle_fault 1 x ⨾ angle_fault 2 y ⨾ angle_fault 3 z)
+euler_fault x y z = within Number (angles_fault 1 x y z)
 
 abbrev pub finite_fault4 : ℕ → Quat Float → Option NumberFault
 finite_fault4 at q = unless (finite4 q) (NotFinite at)

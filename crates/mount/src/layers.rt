@@ -7,9 +7,10 @@ ghost use Rattle.mount.specs.Laws.{layer_shallow, layer_unit, layer_stands};
 
 use crate::below::{DEEPEST, Mount};
 use crate::settings::{Aim, Setting};
-use crate::turning::{Turning, check_angles, check_swings};
+use crate::turning::{Turning, check_swings};
 use euler::EulerRot;
-use fault::RigFault;
+use fault::{RigFault, RotationFault};
+use numeric::check_angles;
 use quaternion::DQuat;
 
 // A layer over a mount: set to nothing, and then as the mount below, or set to a turn.
@@ -47,12 +48,14 @@ impl<M: Mount, T: Turning> Layer<M, T> {
     }
 }
 
+// Each kind has a call of its own, for it takes and refuses other numbers.
+
 impl<M: Mount> Layer<M, Setting> {
     // Sets the bracket, in the place of what it was set to.
     pub fn set(&mut self, name: EulerRot, a: f64, b: f64, c: f64) -> Result<(), RigFault>
         ensures { Decided (layer_fault 1 (M.Mount.deep self.old.below) (angles_fault a b c)) result ((self.new.below ≡ self.old.below) × IsSet self.new.set name a b c) (self.new ≡ self.old) }
     {
-        check_angles(a, b, c)?;
+        check_angles(2, a, b, c).map_err(RotationFault::from)?;
         self.check_room()?;
         self.set = Some(Setting { name, a, b, c });
         Ok(())

@@ -7,42 +7,24 @@ ghost use Rattle.rounding.specs.Value.{floats};
 ghost use Rattle.drift.specs.Laws.{Kept, Sound, turned};
 ghost use Rattle.drift.specs.Drift.{UnitAt, Stands};
 ghost use Rattle.quaternion.specs.Quaternions.{parts};
-ghost use Rattle.mount.specs.Facts.{deepest, angles_fault, swing_fault, swings_fault};
+ghost use Rattle.mount.specs.Facts.{deepest, swings_fault};
 ghost use Rattle.mount.specs.Layers.{set_truth, set_floats, aim_truth, aim_floats};
 ghost use Rattle.mount.specs.Laws.{set_unit, set_stands, aim_unit, aim_stands};
 
 use crate::settings::{Aim, Setting};
-use fault::{NumberFault, RotationFault};
-use numeric::{check_angle, check_number};
+use fault::RotationFault;
+use numeric::check_size;
 use quaternion::DQuat;
 
-// The angles of a bracket, as arguments 2, 3 and 4.
-pub(crate) fn check_angles(a: f64, b: f64, c: f64) -> Result<(), RotationFault>
-    ensures { result ≡ answer (angles_fault a b c) tt }
-{
-    check_angle(2, a)?;
-    check_angle(3, b)?;
-    check_angle(4, c)?;
-    Ok(())
-}
-
-fn check_swing(argument: u8, angle: f64) -> Result<(), NumberFault>
-    ensures { result ≡ answer (swing_fault argument angle) tt }
-{
-    check_number(argument, angle)?;
-    if angle.abs() <= 10.0 {
-        Ok(())
-    } else {
-        Err(NumberFault::TooLarge(argument))
-    }
-}
+// What pan and tilt are at most, in size.
+const LARGEST_SWING: f64 = 10.0;
 
 // Pan and tilt of a yoke, as arguments 1 and 2.
 pub(crate) fn check_swings(pan: f64, tilt: f64) -> Result<(), RotationFault>
     ensures { result ≡ answer (swings_fault pan tilt) tt }
 {
-    check_swing(1, pan)?;
-    check_swing(2, tilt)?;
+    check_size(1, pan, LARGEST_SWING)?;
+    check_size(2, tilt, LARGEST_SWING)?;
     Ok(())
 }
 
