@@ -189,7 +189,7 @@ pub enum Frame {
 }
 
 // An order by four facts: the axis that it begins with, whether the next follows it in the cycle X, Y, Z (even parity),
-// whether the last repeats the first, and whether the letters are read forwards (static) or backwards.
+// whether the last repeats the first, and whether the letters are read forwards (static) or backwards. Flags, as in the original.
 #[derive(Copy, Clone, Debug, PartialEq, Eq)]
 pub struct Order {
     pub initial_axis: Axis,

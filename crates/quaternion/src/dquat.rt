@@ -239,6 +239,22 @@ fn about(axis: Axis, angle: f64) -> Result<DQuat, RotationFault>
     Ok(along(axis, s, c))
 }
 
+impl From<[f64; 4]> for DQuat {
+    ghost from_gives = { λ a q. q ≡ listed a };
+
+    fn from(a: [f64; 4]) -> DQuat {
+        DQuat::from_array(a)
+    }
+}
+
+impl From<DQuat> for [f64; 4] {
+    ghost from_gives = { λ q a. a ≡ q.x ∷ q.y ∷ q.z ∷ q.w ∷ [] };
+
+    fn from(q: DQuat) -> [f64; 4] {
+        q.to_array()
+    }
+}
+
 impl From<DQuat> for DVec4 {
     ghost from_gives = { λ q v. V.parts4 v ≡ parts q };
 

@@ -138,7 +138,7 @@ impl DQuat {
         self.sweep(end, dot, s, nearer(dot.abs()))
     }
 
-    // Straight where the two are so near that the sine of their angle is lost.
+    // Straight where the two are so near that the sine of their angle is lost; each caller judges that by a number of its own.
     fn sweep(self, end: DQuat, dot: f64, s: f64, straight: bool) -> Result<DQuat, RotationFault>
         ensures { result ≡ way (parts self) (parts end) dot s straight }
     {

@@ -41,7 +41,7 @@ impl BVec4 {
         self.x && self.y && self.z && self.w
     }
 
-    // The element at `index`.
+    // The element at `index`. A match names the elements, as `DVec3::at` and `DMat3::col` do; over a slice the three would be no plainer.
     pub fn test(self, index: usize) -> Result<bool, RotationFault>
         ensures { result ≡ answer (index_fault 4 index) (chosen self index) }
     {

@@ -74,7 +74,7 @@ impl DVec3 {
         [self.x, self.y, self.z]
     }
 
-    // The original's `self[index]`.
+    // The original's `self[index]`, which panics where this refuses, so that `Index` would not do.
     pub fn at(self, index: usize) -> Result<f64, RotationFault>
         ensures { result ≡ answer (index_fault 3 index) (component self index) }
     {
@@ -121,6 +121,22 @@ impl DVec3 {
         ensures { result ≡ vec3 self.z self.y self.x }
     {
         DVec3::new(self.z, self.y, self.x)
+    }
+}
+
+impl From<[f64; 3]> for DVec3 {
+    ghost from_gives = { λ a v. v ≡ listed3 a };
+
+    fn from(a: [f64; 3]) -> DVec3 {
+        DVec3::from_array(a)
+    }
+}
+
+impl From<DVec3> for [f64; 3] {
+    ghost from_gives = { λ v a. a ≡ v.x ∷ v.y ∷ v.z ∷ [] };
+
+    fn from(v: DVec3) -> [f64; 3] {
+        v.to_array()
     }
 }
 
