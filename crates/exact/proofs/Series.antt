@@ -8,12 +8,12 @@ use native.Mathlib.Omega.{arith}
 use native.Mathlib.Nat.{mul-pos, pow-zero, pow-succ'}
 use lib.Dec.{T, eqb, eqb→eq}
 use lib.IntN.{ℤ, pos}
+use lib.Ieee.Fits.{and_l, and_r}
 use Rattle.exact.specs.Fraction as F
 use Rattle.exact.specs.Fraction.{Frac, whole, ◌over◌, ◌*ᶠ◌}
 use Rattle.exact.specs.Sine.{power, factorial, alternating, odds, evens, S, C}
 use Rattle.exact.proofs.Ring.{◌⊗◌, ⊖◌, ◌⊝◌}
 use Rattle.exact.proofs.Rational.{ℚ, cls, ◌+◌, ◌*◌, neg, ◌-◌, plus_cls, times_cls, neg_cls, ∅, ◌▸◌, ◌≐◌, ring}
-use Rattle.exact.proofs.Order.{and_l, and_r}
 use Rattle.exact.proofs.Within.{0#, 1#, 0ₑ, 1ₑ, num, num_*}
 use Rattle.exact.proofs.Numbers.{over_is}
 use Rattle.exact.proofs.Pairs.{Pair, pair, mirror}
