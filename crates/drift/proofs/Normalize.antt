@@ -1,5 +1,5 @@
 -- `normal` on floats: the dot product's error is a share of it, since its terms are squares; then root, quotient and products.
-use Rattle.std.proofs.Common.{◌≡◌, Bool, true, false, cond, ◌&&◌, pos, None, sym, refl, ap, ◌∙◌, subst, ap₂}
+use Rattle.std.proofs.Common.{◌≡◌, false, cond, ◌&&◌, pos, None, sym, refl, ap, ◌∙◌, subst, ap₂}
 use mathlib.Core.Bool.{and-false}
 use lib.Ieee.{Float, binary64, div, lt, of_bits, fits}
 use Rattle.std.specs.Float.{sqrt}

@@ -1,7 +1,7 @@
 -- One step: a turn of what is kept, normalised, against the exact product.
 use Rattle.std.proofs.Common.{pos}
 use lib.Ieee.{Float}
-use Rattle.exact.specs.Fraction.{Frac, 1ᶠ, whole, part, ◌+ᶠ◌, ◌-ᶠ◌, ◌*ᶠ◌}
+use Rattle.exact.specs.Fraction.{Frac, 1ᶠ, whole, part, ◌+ᶠ◌}
 use Rattle.exact.specs.Quat.{Quat, square, product}
 use Rattle.exact.proofs.Ring.{con, ◌⊕◌, ◌⊗◌, ◌⊝◌}
 use Rattle.exact.proofs.Rational.{ℚ, cls, ◌+◌, ◌*◌, ◌-◌, ∅, ◌▸◌}

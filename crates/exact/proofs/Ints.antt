@@ -4,7 +4,7 @@ use native.Mathlib.Omega.{arith}
 use Prim.Native.Nat.{ℕ, zero, suc, ◌+◌, ◌*◌}
 use lib.Signed.{le_z, non_neg}
 use mathlib.Core.Bool.{Bool, true, false, not, cond}
-use mathlib.Core.List.{List, [], ◌∷◌}
+use mathlib.Core.List.{List}
 use lib.ListN.{get_or}
 use native.Mathlib.Nat.{le_antisymm}
 use lib.Dec.{T, eqb, eqb→eq, leb, leb→le, ltb, ltb→lt, nltb→le, le→leb, leb-zero, leb-suc-zero, leb-suc-suc}

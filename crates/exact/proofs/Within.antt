@@ -1,6 +1,6 @@
 -- Error analysis: `x within m` says |x| ≤ m, and `x ≈⟨ e ⟩ X` that x is within e of X. Sums and products of such, and closed bounds by computing.
 use mathlib.Core.Path.{◌≡◌, refl, sym, ◌∙◌, ap, subst}
-use mathlib.Core.Bool.{Bool, true, false, not, ◌&&◌}
+use mathlib.Core.Bool.{Bool, not, ◌&&◌}
 use native.Mathlib.Omega.{arith}
 use native.Mathlib.Numerals.{add-one}
 use Prim.Native.Nat as N
