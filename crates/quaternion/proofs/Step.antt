@@ -1,12 +1,12 @@
 -- One step, where what is turned is kept: nearer than where it is only sound.
 use Rattle.std.proofs.Common.{pos}
 use lib.Ieee.{Float}
-use Rattle.exact.specs.Fraction.{Frac, 1ᶠ, whole, part, ◌+ᶠ◌, ◌-ᶠ◌, ◌*ᶠ◌}
+use Rattle.exact.specs.Fraction.{Frac, 1ᶠ, whole, part, ◌+ᶠ◌}
 use Rattle.exact.specs.Quat.{Quat, square, product}
 use Rattle.exact.proofs.Ring.{con, ◌⊕◌, ◌⊗◌}
 use Rattle.exact.proofs.Rational.{ℚ, cls, ◌+◌, ◌*◌, ∅, ◌▸◌}
 use Rattle.exact.proofs.Order.{◌≤◌, number, ◌⊠◌, ◌≼◌, ◌by◌, ◌⇒◌, le}
-use Rattle.exact.proofs.Within.{1#, 1ₑ, 2⁻, closed, computes, ≤_trans, ◌≈⟨◌⟩◌, near_≤}
+use Rattle.exact.proofs.Within.{1#, 1ₑ, 2⁻, closed, computes, ◌≈⟨◌⟩◌, near_≤}
 use Rattle.exact.proofs.Quats.{ops, ◌upto◌, ◌~⟨◌⟩◌, ~_≤}
 use Rattle.rounding.specs.Value.{floats}
 use Rattle.drift.specs.Laws.{Kept, turned}
