@@ -23,6 +23,12 @@ use Rattle.numeric.specs.Floats.{◌⊗◌ as ◌⊗ᶠ◌, half}
 use Rattle.numeric.specs.Sine.{sin_float, cos_float}
 use Rattle.numeric.specs.Laws.{Angle}
 use Rattle.numeric.proofs.Sines.{sine_law, cosine_law}
+use Rattle.euler.specs.declared.Axis.{Axis}
+use Rattle.euler.specs.declared.Order.{Order}
+
+-- the order of four choices
+abbrev pub at : Axis → Bool → Bool → Bool → Order
+at i e r f = record { initial_axis = i; parity_even = e; initial_repeated = r; frame_static = f }
 
 -- the floats t.0 and t.1 within e of the sine and the cosine of w
 pub record Sines (t : Float × Float) (w : Pair) (e : ℚ) : Type 0 where

@@ -31,7 +31,7 @@ use Rattle.euler.specs.declared.Order.{Order}
 use Rattle.euler.proofs.Turns.{ends, both_ends, in_order, name_turn}
 use Rattle.drift.specs.Columns.{Nine, nine, pick, placed_column, column}
 use Rattle.drift.specs.EulerLaws.{IsColumn, unit, EulerColumnLaw}
-use Rattle.drift.proofs.EulerAngles.{Sines, sines_of, flip, halved, ε, signed_sines, Small, small, pair_of, turned_back}
+use Rattle.drift.proofs.EulerAngles.{at, Sines, sines_of, flip, halved, ε, signed_sines, Small, small, pair_of, turned_back}
 
 -- ---- images under turns
 
@@ -94,9 +94,6 @@ image_in_order o a b c v =
     ∙ ap (image p) (image_about (letter (second o)) b _) ∙ image_about (letter o.initial_axis) a _
 
 -- ---- the algebra
-
-abbrev at : Axis → Bool → Bool → Bool → Order
-at i e r f = record { initial_axis = i; parity_even = e; initial_repeated = r; frame_static = f }
 
 -- of squared length 1
 abbrev level : Pair → Spin ℚ

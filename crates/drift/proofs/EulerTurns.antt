@@ -22,7 +22,7 @@ use Rattle.euler.specs.declared.Axis.{Axis}
 use Rattle.euler.specs.declared.Axis.TheVariants.{X, Y, Z}
 use Rattle.euler.specs.declared.Order.{Order}
 use Rattle.euler.proofs.Turns.{ends, both_ends, in_order, name_turn}
-use Rattle.drift.proofs.EulerAngles.{Sines, sines_of, flip, halved, ε, full, signed_half_sines, Small, small, pair_of, turned_back}
+use Rattle.drift.proofs.EulerAngles.{at, Sines, sines_of, flip, halved, ε, full, signed_half_sines, Small, small, pair_of, turned_back}
 use Rattle.drift.specs.Turns.{Angle, angle, place, four, assembled, parity, by_order}
 use Rattle.drift.specs.EulerLaws.{OrderTurnLaw}
 use Rattle.drift.proofs.Floats.{values, square_of, settles, beside, unit_within}
@@ -30,9 +30,6 @@ use Rattle.drift.proofs.About.{along_apart}
 use Rattle.drift.proofs.Fair.{turn_long}
 
 -- ---- the algebra
-
-abbrev at : Axis → Bool → Bool → Bool → Order
-at i e r f = record { initial_axis = i; parity_even = e; initial_repeated = r; frame_static = f }
 
 abbrev of : Pair → Angle ℚ
 of w = angle (w.s, w.c)

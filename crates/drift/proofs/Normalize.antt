@@ -1,5 +1,6 @@
 -- `normal` on floats: the dot product's error is a share of it, since its terms are squares; then root, quotient and products.
-use Rattle.std.proofs.Common.{◌≡◌, Bool, true, false, cond, ◌&&◌, pos, None, sym, refl, ap, ◌∙◌, subst, ap₂}
+use Rattle.std.proofs.Common.{◌≡◌, false, cond, ◌&&◌, pos, None, sym, refl, ap, ◌∙◌, subst, ap₂}
+use mathlib.Core.Bool.{and-false}
 use lib.Ieee.{Float, binary64, div, lt, of_bits, fits}
 use Rattle.std.specs.Float.{sqrt}
 use Rattle.fault.specs.Answers.{unless}
@@ -27,10 +28,6 @@ use Rattle.drift.specs.Laws.{Are, Ample, Broad, Normalised, NormalLaw}
 use Rattle.drift.proofs.Tests.{not_infinite, are_finite, not_below}
 use Rattle.drift.proofs.Floats.{values, unit_within, together, x², y², z², w², by_square}
 use Rattle.drift.proofs.Normal.{σ, β, η, scaled_up, normal_length, moved}
-
-and_false : (b : Bool) → (b && false) ≡ false
-and_false true = refl
-and_false false = refl
 
 -- 2⁻¹⁰²², below which a squared length is scaled up
 smallest_normal : Exact (bits 0x0010_0000_0000_0000) (2⁻ 1022)
@@ -79,7 +76,7 @@ module _ {q : Quat Float} (i : Are q) (lo : 2⁻ 3 ≤ square ops (values q)) (h
   unscaled : scaled q ≡ q
   unscaled =
       let o : overflows q ≡ false = ap (λ b. b && finite4 q) (not_infinite D length²_near.0) in
-      let n : underflows q ≡ false = ap (λ b. lt (bits 0) D && b) (not_below (own length²_near.0) smallest_normal (≤_trans (known_≤ tt) D_least)) ∙ and_false (lt (bits 0) D) in
+      let n : underflows q ≡ false = ap (λ b. lt (bits 0) D && b) (not_below (own length²_near.0) smallest_normal (≤_trans (known_≤ tt) D_least)) ∙ and-false (lt (bits 0) D) in
       ap₂ (λ a b. cond a (scale floats q (bits 0x1A70_0000_0000_0000)) (cond b (scale floats q (bits 0x6570_0000_0000_0000)) q)) o n
 
   abbrev S : Float

@@ -6,31 +6,25 @@ ghost use Rattle.drift.specs.EulerLaws.{OrderTurnLaw, EulerColumnLaw};
 ghost use Rattle.drift.specs.Drift.{AxisFair, Hung, TurnDrifts, Told, Beam};
 
 // Products, normalising, turns about an axis, images.
-pub fn laws_stand() -> u8
+pub fn laws_stand()
     ensures product { ProductLaw }
     ensures normal { NormalLaw }
     ensures turned { TurnedLaw }
     ensures turn { TurnLaw }
     ensures image { ImageLaw }
-{
-    0
-}
+{}
 
 // The turns and the matrices of all Euler orders.
-pub fn orders_stand() -> u8
+pub fn orders_stand()
     ensures turn { OrderTurnLaw }
     ensures column { EulerColumnLaw }
-{
-    0
-}
+{}
 
 // What is turned n times, over a mount of depth d, and its beam.
-pub fn drift_stands() -> u8
+pub fn drift_stands()
     ensures axis { AxisFair }
     ensures hung { Hung }
     ensures turn { TurnDrifts }
     ensures told { Told }
     ensures beam { Beam }
-{
-    0
-}
+{}

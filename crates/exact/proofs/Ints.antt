@@ -4,7 +4,8 @@ use native.Mathlib.Omega.{arith}
 use Prim.Native.Nat.{ℕ, zero, suc, ◌+◌, ◌*◌}
 use lib.Signed.{le_z, non_neg}
 use mathlib.Core.Bool.{Bool, true, false, not, cond}
-use mathlib.Core.List.{List, [], ◌∷◌}
+use mathlib.Core.List.{List}
+use lib.ListN.{get_or}
 use native.Mathlib.Nat.{le_antisymm}
 use lib.Dec.{T, eqb, eqb→eq, leb, leb→le, ltb, ltb→lt, nltb→le, le→leb, leb-zero, leb-suc-zero, leb-suc-suc}
 use lib.Arith.{lt→nleb}
@@ -81,9 +82,7 @@ abbrev pub ℤ_into : Into ℤ_coef ℤ_ring
 
 -- the values of the variables, in order
 abbrev pub ℤ_env : List ℤ → ℕ → ℤ
-ℤ_env [] i = pos zero
-ℤ_env (x ∷ xs) zero = x
-ℤ_env (x ∷ xs) (suc i) = ℤ_env xs i
+ℤ_env xs i = get_or xs i (pos zero)
 
 pub ℤ_solve : (xs : List ℤ) (e f : Expr ℤ) → T (empty ℤ_coef (norm ℤ_coef (e ⊕ ⊖ f))) → ⟦◌⟧ ℤ_coef ℤ_ring ℤ_into (ℤ_env xs) e ≡ ⟦◌⟧ ℤ_coef ℤ_ring ℤ_into (ℤ_env xs) f
 ℤ_solve xs = solve ℤ_coef ℤ_ring ℤ_into (ℤ_env xs)

@@ -9,7 +9,7 @@ use native.Mathlib.Nat.{eq-zero-or-pos, suc-ne-zero}
 use native.Mathlib.Omega.{arith}
 use lib.Dec.{T, leb→le}
 use lib.IntN.{ℤ, pos, negsuc, nat_abs, one, ◌*ℤ◌, *ℤ-one}
-use lib.Signed.{le_z, non_neg}
+use lib.Signed.{le_z, non_neg, le_z_yes, yes_non_neg}
 use borrow.Author.Tests.{ne_eqb}
 use Rattle.exact.specs.Fraction.{Frac, 0ᶠ, whole, ◌over◌}
 use Rattle.exact.proofs.Ring.{◌⊗◌}
@@ -66,11 +66,7 @@ unfolding one
 times_one z = *ℤ-one z
 
 pub nonneg_whole : (z : ℤ) → 0# ≤ cls (whole z) → T (non_neg z)
-nonneg_whole z h = go z (subst (λ a. T (le_z (pos 0) a)) (times_one z) (to_frac 0ᶠ (whole z) h).by)
-  where
-    go : (z : ℤ) → T (le_z (pos 0) z) → T (non_neg z)
-    go (pos n) t = tt
-    go (negsuc n) t = t
+nonneg_whole z h = yes_non_neg (le_z_yes (subst (λ a. T (le_z (pos 0) a)) (times_one z) (to_frac 0ᶠ (whole z) h).by))
 
 -- ---- quotients
 

@@ -9,6 +9,7 @@ use Prim.Native.Nat.{ℕ, zero, suc}
 use lib.Dec.{T, T_prop, eqb}
 use lib.Signed.{non_neg}
 use lib.IntN.{ℤ, pos, negsuc, neg_ℤ, ◌+ℤ◌}
+use lib.Ieee.Fits.{and_l, and_r}
 use Rattle.exact.specs.Fraction.{Frac, 0ᶠ, 1ᶠ, den, cross, ◌over◌, ◌≤ᶠ◌}
 use Rattle.exact.proofs.Ring.{con, ◌⊕◌, ◌⊗◌, ⊖◌, ◌⊝◌, Poly, end, term, norm}
 use Rattle.exact.proofs.Ints.{scaled, non_neg_+, non_neg_*, square_zero, cut, le_z_is, neg_*ℤ, is_zero}
@@ -152,14 +153,6 @@ assume k e g i = elim (eqb i k) [ true ↦ e | false ↦ g i ]
 abbrev pub proves : ℕ → (ℕ → Ex) → Goal → Bool
 proves k g (c by p) = sound p && left (norm ℚ_coef (gap c ⊝ total g p))
 proves k g (c ⇒ f) = proves (suc k) (assume k (gap c) g) (f (given k))
-
-pub and_l : (a b : Bool) → T (a && b) → T a
-and_l true b t = tt
-and_l false b t = t
-
-pub and_r : (a b : Bool) → T (a && b) → T b
-and_r true b t = t
-and_r false b t = absurd t
 
 module _ (v : Vars) where
   Facts : (ℕ → Ex) → Type 0

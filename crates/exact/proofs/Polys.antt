@@ -1,7 +1,7 @@
 -- Polynomials in one variable: the list of their coefficients, the constant first. Sums, products and compositions compute, and so does a bound of the
 -- value: |c₀ + c₁ x + …| ≤ |c₀| + |c₁| m + … where |x| ≤ m. The coefficients are whole numbers, or such polynomials in another variable.
 use mathlib.Core.Path.{◌≡◌, refl, sym, ◌∙◌, ap, ap₂, subst}
-use mathlib.Core.List.{List, [], ◌∷◌}
+use mathlib.Core.List.{List, [], ◌∷◌, map}
 use Prim.Native.Nat as N
 use Prim.Native.Nat.{ℕ}
 use lib.IntN.{ℤ, pos, neg_ℤ, ◌+ℤ◌, ◌*ℤ◌, nat_abs}
@@ -36,16 +36,14 @@ module _ {C : Type 0} (K : Num C) where
   add (c ∷ p) (d ∷ q) = K.plus c d ∷ add p q
 
   abbrev pub scale : C → List C → List C
-  scale c [] = []
-  scale c (d ∷ q) = K.times c d ∷ scale c q
+  scale c = map (K.times c)
 
   abbrev pub mul : List C → List C → List C
   mul [] q = []
   mul (c ∷ p) q = add (scale c q) (K.zero ∷ mul p q)
 
   abbrev pub opposite : List C → List C
-  opposite [] = []
-  opposite (c ∷ p) = K.minus c ∷ opposite p
+  opposite = map K.minus
 
   -- p at q
   abbrev pub compose : List C → List C → List C

@@ -4,11 +4,12 @@ use mathlib.Core.Bool.{Bool, ◌&&◌}
 use Prim.Native.Nat.{zero}
 use lib.Dec.{T}
 use lib.IntN.{pos}
+use lib.Ieee.Fits.{and_l, and_r}
 use Rattle.exact.specs.Fraction.{whole}
 use Rattle.exact.specs.Quat.{Ops, Quat, product, conjugate, image, square, plus, minus, dot}
 use Rattle.exact.proofs.Ring.{con, ◌⊕◌, ◌⊗◌, ⊖◌, ◌⊝◌}
 use Rattle.exact.proofs.Rational.{ℚ, ◌+◌, ◌*◌, neg, ◌-◌, Ex, Vars, ∅, ◌▸◌, ◌▹◌, Over, fill, val, ◌≐◌, true_of, solved, ring}
-use Rattle.exact.proofs.Order.{◌≤◌, Cert, squared, number, ◌⊞◌, ◌⊠◌, ◌≼◌, ◌by◌, ◌⇒◌, le, and_l, and_r}
+use Rattle.exact.proofs.Order.{◌≤◌, Cert, squared, number, ◌⊞◌, ◌⊠◌, ◌≼◌, ◌by◌, ◌⇒◌, le}
 use Rattle.exact.proofs.Within.{0#, 1#, 0ₑ, 1ₑ, num, ≤_trans, ≤_*, 0≤+, 0≤*, root, ◌≈⟨◌⟩◌}
 
 -- the operations of numbers, and those of polynomials

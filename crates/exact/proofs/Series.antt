@@ -8,12 +8,13 @@ use native.Mathlib.Omega.{arith}
 use native.Mathlib.Nat.{mul-pos, pow-zero, pow-succ'}
 use lib.Dec.{T, eqb, eqb→eq}
 use lib.IntN.{ℤ, pos}
+use lib.Ieee.Fits.{and_l, and_r}
+use Rattle.std.specs.List.{list_all}
 use Rattle.exact.specs.Fraction as F
 use Rattle.exact.specs.Fraction.{Frac, whole, ◌over◌, ◌*ᶠ◌}
 use Rattle.exact.specs.Sine.{power, factorial, alternating, odds, evens, S, C}
 use Rattle.exact.proofs.Ring.{◌⊗◌, ⊖◌, ◌⊝◌}
 use Rattle.exact.proofs.Rational.{ℚ, cls, ◌+◌, ◌*◌, neg, ◌-◌, plus_cls, times_cls, neg_cls, ∅, ◌▸◌, ◌≐◌, ring}
-use Rattle.exact.proofs.Order.{and_l, and_r}
 use Rattle.exact.proofs.Within.{0#, 1#, 0ₑ, 1ₑ, num, num_*}
 use Rattle.exact.proofs.Numbers.{over_is}
 use Rattle.exact.proofs.Pairs.{Pair, pair, mirror}
@@ -140,10 +141,6 @@ evenb zero = true
 evenb (suc zero) = false
 evenb (suc (suc n)) = evenb n
 
-all : (ℕ → Bool) → List ℕ → Bool
-all f [] = true
-all f (n ∷ ns) = f n && all f ns
-
 module _ (x : ℚ) where
   even_pow : (n : ℕ) → T (evenb n) → pow (neg x) n ≡ pow x n
   unfolding evenb pow
@@ -156,23 +153,23 @@ module _ (x : ℚ) where
   odd_pow zero t = absurd t
   odd_pow (suc n) t = ap (λ v. neg x * v) (even_pow n t) ∙ ring (x ▸ pow x n ▸ ∅) (λ x p. ⊖ x ⊗ p ≐ ⊖ (x ⊗ p)) tt
 
-  alt_even : (ns : List ℕ) → T (all evenb ns) → alt (neg x) ns ≡ alt x ns
-  unfolding alt all
+  alt_even : (ns : List ℕ) → T (list_all evenb ns) → alt (neg x) ns ≡ alt x ns
+  unfolding alt
   alt_even [] t = refl
   alt_even (n ∷ ns) t = ap₂ (λ u v. u * cls (pos 1 over factorial n) - v) (even_pow n (and_l (evenb n) _ t)) (alt_even ns (and_r (evenb n) _ t))
 
-  alt_odd : (ns : List ℕ) → T (all (λ n. evenb (suc n)) ns) → alt (neg x) ns ≡ neg (alt x ns)
-  unfolding alt all
+  alt_odd : (ns : List ℕ) → T (list_all (λ n. evenb (suc n)) ns) → alt (neg x) ns ≡ neg (alt x ns)
+  unfolding alt
   alt_odd [] t = ring ∅ (0ₑ ≐ ⊖ 0ₑ) tt
   alt_odd (n ∷ ns) t = ap₂ (λ u v. u * cls (pos 1 over factorial n) - v) (odd_pow n (and_l (evenb (suc n)) _ t)) (alt_odd ns (and_r (evenb (suc n)) _ t))
       ∙ ring (pow x n ▸ cls (pos 1 over factorial n) ▸ alt x ns ▸ ∅) (λ p i a. ⊖ p ⊗ i ⊝ ⊖ a ≐ ⊖ (p ⊗ i ⊝ a)) tt
 
   pub C_even : Cᵥ (neg x) ≡ Cᵥ x
-  unfolding evenb all
+  unfolding evenb
   C_even = alt_even evens tt
 
   pub S_odd : Sᵥ (neg x) ≡ neg (Sᵥ x)
-  unfolding evenb all
+  unfolding evenb
   S_odd = alt_odd odds tt
 
 -- ---- the two as a pair

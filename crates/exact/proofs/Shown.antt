@@ -7,7 +7,7 @@ use Rattle.exact.specs.Quat.{fractions, product}
 use Rattle.exact.specs.Distance.{Close}
 use Rattle.exact.specs.Sine.{sine, cosine, turns, alternating, nearest, floor}
 use Rattle.exact.specs.Turn.{exact_turn}
-use Rattle.exact.specs.Facts.{LengthsMultiply, ProductsAssociate, TotalsSplit, Triangle, Triangle3, TimesRight, TimesLeft, ImageIsProduct, ImagesNear, Circle, SineCircle, Sizes, AxisTurnLength, ExactTurnLength, ExactTurnLong, NearestTurns, AnyTurns, AnyTurnsWide, OddEven, EqualSines, Adding, Doubling, Halving, Steady, SineSteady, QuaternionExamples, SineExamples}
+use Rattle.exact.specs.Facts.{LengthsMultiply, ProductsAssociate, TotalsSplit, Triangle, Triangle3, TimesRight, TimesLeft, ImageIsProduct, ImagesNear, Circle, SineCircle, Sizes, AxisTurnLength, ExactTurnLength, ExactTurnLong, NearestTurns, AnyTurns, AnyTurnsWide, OddEven, EqualSines, Adding, Doubling, Halving, Steady, SineSteady, SineExamples}
 use Rattle.exact.proofs.Rational.{ℚ, cls, ◌-◌}
 use Rattle.exact.proofs.Order.{◌≤◌, from_frac}
 use Rattle.exact.proofs.Within.{1#, computes, closed, ≤_refl, within_≤, within_at, ◌≈⟨◌⟩◌, near, near_≤}
@@ -140,9 +140,6 @@ unfolding computes
 sine_steady u v w h s = both (exact_steady u v (cls w) (size h) (from_frac w (pos 1 over 5) s)) (≤_refl _)
 
 -- ---- examples
-
-pub quaternion_examples : QuaternionExamples
-quaternion_examples = ((refl, refl, refl, refl), (refl, refl, refl, refl), (refl, refl, refl, refl), (refl, refl, refl, refl), (refl, refl, refl, refl))
 
 pub sine_examples : SineExamples
 unfolding sine cosine alternating nearest floor

@@ -5,10 +5,10 @@ use Prim.Native.Nat.{◌^◌}
 use lib.Dec.{T}
 use lib.IntN.{ℤ, pos}
 use lib.Signed.{le_z}
+use lib.Ieee.Fits.{and_l, and_r}
 use Rattle.exact.specs.Fraction.{Frac, ◌over◌, cross, ◌+ᶠ◌}
 use Rattle.exact.specs.Sine.{sine, cosine, alternating, nearest, floor}
 use Rattle.exact.specs.Table.{Row, Reads, AllRead, table, TableReads}
-use Rattle.exact.proofs.Order.{and_l, and_r}
 
 abbrev at_most : Frac → Frac → Bool
 at_most x y = le_z (cross x y) (cross y x)

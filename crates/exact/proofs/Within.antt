@@ -1,12 +1,12 @@
 -- Error analysis: `x within m` says |x| ≤ m, and `x ≈⟨ e ⟩ X` that x is within e of X. Sums and products of such, and closed bounds by computing.
 use mathlib.Core.Path.{◌≡◌, refl, sym, ◌∙◌, ap, subst}
-use mathlib.Core.Bool.{Bool, true, false, not, ◌&&◌}
+use mathlib.Core.Bool.{Bool, not, ◌&&◌}
 use native.Mathlib.Omega.{arith}
 use native.Mathlib.Numerals.{add-one}
 use Prim.Native.Nat as N
 use Prim.Native.Nat.{ℕ, zero, suc}
 use mathlib.Core.Logic.{◌⊎◌, inl, inr}
-use lib.Dec.{T, leb→le, le→leb}
+use lib.Dec.{T, leb→le, le→leb, T_not, not_T}
 use lib.IntN.{ℤ, pos, negsuc}
 use lib.Signed.{non_neg}
 use Rattle.exact.specs.Fraction.{Frac, 0ᶠ, 1ᶠ, whole, part, ◌over◌, inverse}
@@ -121,18 +121,10 @@ cancel {x} {y} {c} h k = record {
 }
 
 pub not_≤ : {x y : ℚ} → (y ≤ x → ⊥) → x < y
-not_≤ {x} {y} f = record { by = go (nonneg (x - y)) (λ t. f (record { by = t })) }
-  where
-    go : (b : Bool) → (T b → ⊥) → T (not b)
-    go true f = f tt
-    go false f = tt
+not_≤ {x} {y} f = record { by = not_T (nonneg (x - y)) (λ t. f (record { by = t })) }
 
 pub <_not : {x y : ℚ} → x < y → y ≤ x → ⊥
-<_not {x} {y} h k = clash (nonneg (x - y)) k.by h.by
-  where
-    clash : (b : Bool) → T b → T (not b) → ⊥
-    clash true s t = t
-    clash false s t = s
+<_not {x} {y} h k = T_not (nonneg (x - y)) h.by k.by
 
 pub <_≤ : {x y z : ℚ} → x < y → y ≤ z → x < z
 <_≤ h k = not_≤ (λ l. <_not h (≤_trans k l))

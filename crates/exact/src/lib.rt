@@ -8,115 +8,87 @@ ghost use Rattle.exact.specs.Facts.{QuaternionExamples, SineExamples, NoTurn, Ha
 ghost use Rattle.exact.specs.Table.{TableReads};
 
 /// The squared length of a product is the product of the squared lengths; products associate, and those of lists split.
-pub fn product_stands() -> u8
+pub fn product_stands()
     ensures length { LengthsMultiply }
     ensures grouping { ProductsAssociate }
     ensures lists { TotalsSplit }
-{
-    0
-}
+{}
 
 /// The triangle law, of quaternions and of vectors; a distance times a quaternion of bounded length, from either side.
-pub fn distance_stands() -> u8
+pub fn distance_stands()
     ensures triangle { Triangle }
     ensures vectors { Triangle3 }
     ensures right { TimesRight }
     ensures left { TimesLeft }
-{
-    0
-}
+{}
 
 /// The image of a vector is q v q*; near quaternions have near images.
-pub fn image_stands() -> u8
+pub fn image_stands()
     ensures product { ImageIsProduct }
     ensures near { ImagesNear }
-{
-    0
-}
+{}
 
 /// S² + C² is 1 within 2^-73, and so is sin² + cos²; hence their sizes.
-pub fn circle_stands() -> u8
+pub fn circle_stands()
     ensures series { Circle }
     ensures angle { SineCircle }
     ensures sizes { Sizes }
-{
-    0
-}
+{}
 
 /// The squared lengths of exact turns: 1 within 2^-73 about an axis, within 2^-71 by three letters.
-pub fn turn_length_stands() -> u8
+pub fn turn_length_stands()
     ensures axis { AxisTurnLength }
     ensures letters { ExactTurnLength }
     ensures long { ExactTurnLong }
-{
-    0
-}
+{}
 
 /// The nearest number of quarter turns leaves at most P/4; any near number of them serves, within 2^-73, or 2^-59 if it leaves up to P/2.
-pub fn quarter_turns_stand() -> u8
+pub fn quarter_turns_stand()
     ensures nearest { NearestTurns }
     ensures any { AnyTurns }
     ensures wide { AnyTurnsWide }
-{
-    0
-}
+{}
 
 /// The sine is odd and the cosine even, within 2^-73.
-pub fn odd_even_stands() -> u8
+pub fn odd_even_stands()
     ensures { OddEven }
-{
-    0
-}
+{}
 
 /// Equal fractions have equal sines and cosines.
-pub fn equal_sines_stand() -> u8
+pub fn equal_sines_stand()
     ensures { EqualSines }
-{
-    0
-}
+{}
 
 /// The addition theorem, the double angle and the half angle, within 2^-57.
-pub fn adding_stands() -> u8
+pub fn adding_stands()
     ensures sum { Adding }
     ensures double { Doubling }
     ensures half { Halving }
-{
-    0
-}
+{}
 
 /// S and C, and the sine and cosine, change by hardly more than the argument.
-pub fn steady_stands() -> u8
+pub fn steady_stands()
     ensures series { Steady }
     ensures angle { SineSteady }
-{
-    0
-}
+{}
 
 /// i j = k, j i = -k, i j k = -1, and two beams.
-pub fn quaternion_examples_stand() -> u8
+pub fn quaternion_examples_stand()
     ensures { QuaternionExamples }
-{
-    0
-}
+{}
 
 /// Ties, quarters, and the sine and cosine of 0.
-pub fn sine_examples_stand() -> u8
+pub fn sine_examples_stand()
     ensures { SineExamples }
-{
-    0
-}
+{}
 
 /// Three angles 0 are no turn; half turns show the order of the letters.
-pub fn turn_examples_stand() -> u8
+pub fn turn_examples_stand()
     ensures none { NoTurn }
     ensures half { HalfTurns }
-{
-    0
-}
+{}
 
 /// Forty sines and cosines to 24 digits.
-pub fn table_stands() -> u8
+pub fn table_stands()
     ensures { TableReads }
-{
-    0
-}
+{}

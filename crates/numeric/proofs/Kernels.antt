@@ -1,11 +1,12 @@
 -- The kernels of sine and cosine against the exact series, of which they sum the first terms.
+use lib.Ieee.Fits.{and_l, and_r}
 use Rattle.std.proofs.Common.{◌≡◌, ℕ, suc, Bool, true, ◌&&◌, T, eqb, List, [], ◌∷◌, pos, sym, ap, ◌∙◌, eqb→eq}
 use lib.Ieee.{Float, fits, of_bits}
 use Rattle.exact.specs.Fraction.{Frac, whole, part, ◌over◌}
 use Rattle.exact.specs.Sine.{factorial}
 use Rattle.exact.proofs.Ring.{con, ◌⊗◌, ◌⊝◌}
 use Rattle.exact.proofs.Rational.{ℚ, cls, ◌*◌, ◌-◌, ∅, ◌▸◌, ◌≐◌, ring}
-use Rattle.exact.proofs.Order.{◌≤◌, and_l, and_r}
+use Rattle.exact.proofs.Order.{◌≤◌}
 use Rattle.exact.proofs.Within.{1#, 0ₑ, 1ₑ, 2⁻, computes, closed, ≤_of, ◌within◌, within_≤, within_*, ◌≈⟨◌⟩◌, near, near_≤}
 use Rattle.exact.proofs.Series.{pow, alt, Sᵥ, Cᵥ}
 use Rattle.rounding.specs.Value.{Is}

@@ -1,4 +1,5 @@
 -- The arc tangent of a q from 0 to 1: q itself where it is tiny, the series up to 1/8, and above that the angle a of a near b and the small angle of (q − b) / (1 + q b), which the addition theorem joins.
+use lib.Ieee.Fits.{and_l, and_r}
 use Rattle.std.proofs.Common.{◌≡◌, Bool, false, cond, ◌&&◌, T, pos, sym, ap, ◌∙◌}
 use Rattle.std.proofs.lemmas.Bool.{cond_both}
 use lib.Ieee.{Float, binary64, fits, of_bits, lt}
@@ -8,7 +9,7 @@ use Rattle.exact.specs.Fraction.{neg as negᶠ}
 use Rattle.exact.specs.Sine.{S, C, alternating}
 use Rattle.exact.proofs.Ring.{con, ◌⊕◌, ◌⊗◌, ⊖◌, ◌⊝◌}
 use Rattle.exact.proofs.Rational.{ℚ, cls, ◌+◌, ◌*◌, ◌-◌, ∅, ◌▸◌, ◌≐◌, ring}
-use Rattle.exact.proofs.Order.{◌≤◌, number, ◌⊞◌, ◌⊠◌, ◌≼◌, ◌by◌, ◌⇒◌, and_l, and_r}
+use Rattle.exact.proofs.Order.{◌≤◌, number, ◌⊞◌, ◌⊠◌, ◌≼◌, ◌by◌, ◌⇒◌}
 use Rattle.exact.proofs.Order.{le as by_cert}
 use Rattle.exact.proofs.Within.{0#, 1#, 0ₑ, 1ₑ, num, 2⁻, 0≤part, computes, closed, ≤_refl, ≤_trans, ≤_of, ◌within◌, within_+, within_*, within_≤, within_neg, within_at, within_self, within_over, ◌≈⟨◌⟩◌, apart, near_trans, near_size}
 use Rattle.exact.proofs.Pairs.{sum}

@@ -1,12 +1,13 @@
 -- Polynomials on floats by Horner's rule. One size m and one error e bound every step: what keeps them at a step c − z h keeps them for a list of any length.
 -- The bounds are closed fractions, so that each condition on them is `tt`, under `unfolding of_bits fits computes` where it reads literals.
+use lib.Ieee.Fits.{and_l, and_r}
 use Rattle.std.proofs.Common.{Bool, false, ◌&&◌, T, List, [], ◌∷◌, pos}
 use lib.Ieee.{Float, binary64, fits, sub, mul}
 use lib.Ieee.Scale.{finite}
 use Rattle.exact.specs.Fraction.{Frac, whole, part, ◌+ᶠ◌, ◌*ᶠ◌}
 use Rattle.exact.proofs.Ring.{con, ◌⊕◌, ◌⊗◌, ⊖◌, ◌⊝◌}
 use Rattle.exact.proofs.Rational.{ℚ, cls, ◌+◌, ◌*◌, ◌-◌, Ex, ∅, ◌▸◌, ◌≐◌, ring}
-use Rattle.exact.proofs.Order.{◌≤◌, number, ◌⊞◌, ◌⊠◌, ◌≼◌, ◌by◌, ◌⇒◌, le, and_l, and_r}
+use Rattle.exact.proofs.Order.{◌≤◌, number, ◌⊞◌, ◌⊠◌, ◌≼◌, ◌by◌, ◌⇒◌, le}
 use Rattle.exact.proofs.Within.{0#, 1#, 0ₑ, 1ₑ, 2⁻, computes, ≤_refl, ≤_trans, ≤_of, ◌within◌, within_≤, within_self, within_neg, within_nonneg, within_+, within_*, near, apart, near_size}
 use Rattle.rounding.specs.Value.{val, Is}
 use Rattle.rounding.specs.Theorems.{limit, magnitude}

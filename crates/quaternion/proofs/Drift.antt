@@ -12,19 +12,15 @@ use Rattle.exact.proofs.Within.{0#, 1#, 0ₑ, 1ₑ, num, num_suc, num_≤, 2⁻,
 use Rattle.exact.proofs.Quats.{◌~⟨◌⟩◌, ~_≤, ~_at}
 use Rattle.exact.proofs.Distance.{classes, near, long, back}
 use Rattle.drift.specs.Laws.{Kept, turned}
-use Rattle.quaternion.specs.Drift.{Step, Turn, Fair, Fairs, AxisFair, run, turns, hung, Drift, Told, Lamp}
+use Rattle.quaternion.specs.Drift.{Step, Turn, Fair, Fairs, run, turns, hung, Drift, Lamp}
 use Rattle.drift.proofs.Floats.{values, kept_sound}
 use Rattle.drift.proofs.Step.{turned_kept}
-use Rattle.drift.proofs.Fair.{axis_fair as fair_as_made}
-use Rattle.drift.proofs.Drift.{hung_stands, told as told_over}
+use Rattle.drift.proofs.Drift.{hung_stands, told}
 use Rattle.quaternion.proofs.Step.{step_near, kept_near}
 
 pub stepped : Step
 unfolding computes
 stepped k t p τ e f a h g d l m = (turned_kept (kept_sound h) g, back _ _ _ (kept_near h g (near d) (near l) (long m)))
-
-pub axis_fair : AxisFair
-axis_fair axis v q h = let f = fair_as_made axis v q h in record { kept = f.kept; near = f.near; long = f.long }
 
 step : (k : Quat Float) (p : Quat Frac) (e : ℚ) (t : Turn) → Kept k → values k ~⟨ e ⟩ classes p → Fair t → e ≤ 1# → values (turned k t.float) ~⟨ e + 2⁻ 37 ⟩ classes (product fractions p t.turn)
 unfolding computes
@@ -49,11 +45,9 @@ drift k p e ts h d f l n =
     (le (cls e ▸ num (length ts) ▸ ∅) (λ e n. e ≼ con (part 1) ⇒ λ l. n ≼ con (whole (pos 4000)) ⇒ λ h. e ⊕ n ⊗ con (part 37) ≼ 1ₑ by l ⊞ h ⊠ number (part 37)) tt (from_frac _ _ l) (num_≤ n)) in
     (r.0, back _ _ _ r.1)
 
-pub told : Told
-told m k t p d n h g d₁ n₁ dm dk = told_over d n m k t p d₁ n₁ (record { kept = h; near = dm }) (record { kept = g; near = dk })
-
 pub lamp : Lamp
 unfolding computes
 lamp m t d ts h d₁ k f n =
     let r = drifts ts hung one 0# hung_stands.kept (~_≤ (near hung_stands.near) (closed tt)) f (closed tt) (le (num (length ts) ▸ ∅) (λ n. n ≼ con (whole (pos 4000)) ⇒ λ h. 0ₑ ⊕ n ⊗ con (part 37) ≼ 1ₑ by h ⊠ number (part 37)) tt (num_≤ n)) in
-    told m (run hung ts) t (total one (turns ts)) d (length ts) h r.0 d₁ n k (back _ _ _ (~_at (ring (num (length ts) ▸ ∅) (λ n. 0ₑ ⊕ n ⊗ con (part 37) ≐ n ⊗ con (part 37)) tt) r.1))
+    told d (length ts) m (run hung ts) t (total one (turns ts)) d₁ n (record { kept = h; near = k })
+    (record { kept = r.0; near = back _ _ _ (~_at (ring (num (length ts) ▸ ∅) (λ n. 0ₑ ⊕ n ⊗ con (part 37) ≐ n ⊗ con (part 37)) tt) r.1) })

@@ -1,12 +1,12 @@
 -- One step, where what is turned is kept: nearer than where it is only sound.
 use Rattle.std.proofs.Common.{pos}
 use lib.Ieee.{Float}
-use Rattle.exact.specs.Fraction.{Frac, 1ᶠ, whole, part, ◌+ᶠ◌, ◌-ᶠ◌, ◌*ᶠ◌}
+use Rattle.exact.specs.Fraction.{Frac, 1ᶠ, whole, part, ◌+ᶠ◌}
 use Rattle.exact.specs.Quat.{Quat, square, product}
 use Rattle.exact.proofs.Ring.{con, ◌⊕◌, ◌⊗◌}
 use Rattle.exact.proofs.Rational.{ℚ, cls, ◌+◌, ◌*◌, ∅, ◌▸◌}
 use Rattle.exact.proofs.Order.{◌≤◌, number, ◌⊠◌, ◌≼◌, ◌by◌, ◌⇒◌, le}
-use Rattle.exact.proofs.Within.{1#, 1ₑ, 2⁻, closed, computes, ≤_trans, ◌≈⟨◌⟩◌, near_≤}
+use Rattle.exact.proofs.Within.{1#, 1ₑ, 2⁻, closed, computes, ◌≈⟨◌⟩◌, near_≤}
 use Rattle.exact.proofs.Quats.{ops, ◌upto◌, ◌~⟨◌⟩◌, ~_≤}
 use Rattle.rounding.specs.Value.{floats}
 use Rattle.drift.specs.Laws.{Kept, turned}
@@ -26,18 +26,11 @@ module _ {k t : Quat Float} (h : Kept k) (g : Kept t) where
   unfolding computes
   length = near_≤ (product_square (kept_sound h) g (product_length (values k) (values t) (length_of h) (length_of g)) (closed tt)) (closed tt)
 
-  most : square ops (values m) ≤ cls ((1ᶠ +ᶠ δ) *ᶠ (1ᶠ +ᶠ δ))
-  unfolding computes
-  most = ≤_trans length.up (closed tt)
-
-  least : cls ((1ᶠ -ᶠ δ) *ᶠ (1ᶠ -ᶠ δ)) ≤ square ops (values m)
-  least = le (square ops (values m) ▸ ∅) (λ n. 1ₑ ≼ n ⊕ con (part 39 +ᶠ part 46 +ᶠ part 80) ⇒ λ h. con ((1ᶠ -ᶠ δ) *ᶠ (1ᶠ -ᶠ δ)) ≼ n by h) tt length.down
-
   -- k is e from Π and t is f from τ, which is at most a long
   pub kept_near : {Π τ : Quat ℚ} {e f a : ℚ} → values k ~⟨ e ⟩ Π → values t ~⟨ f ⟩ τ → τ upto a → values (turned k t) ~⟨ e * a + f * cls (1ᶠ +ᶠ part 40) + cls (part 40 +ᶠ part 45) ⟩ product ops Π τ
   unfolding computes
   kept_near {Π} {τ} {e} {f} {a} d l b =
-      ~_≤ (turned_by (kept_sound h) g {d = cls δ} (kept_upto h) (closed tt) (closed tt) least most d l b)
+      ~_≤ (turned_by (kept_sound h) g {d = cls δ} (kept_upto h) (closed tt) (closed tt) length (closed tt) (closed tt) d l b)
       (le (e ▸ f ▸ a ▸ ∅) (λ e f a. con δ ⊕ con (part 48) ⊕ (con (part 48) ⊕ (con (1ᶠ +ᶠ part 40) ⊗ f ⊕ e ⊗ a)) ≼ e ⊗ a ⊕ f ⊗ con (1ᶠ +ᶠ part 40) ⊕ con (part 40 +ᶠ part 45) by number (whole (pos 0))) tt)
 
 -- one turn takes 2⁻³⁷ more

@@ -3,13 +3,12 @@ use Rattle.std.specs.Prelude.{ℕ, ◌+◌, ◌≤◌, List, [], ◌∷◌, leng
 use Rattle.exact.specs.Fraction.{Frac, 1ᶠ, part, ◌+ᶠ◌, ◌*ᶠ◌, ◌≤ᶠ◌}
 use Rattle.exact.specs.Quat.{Quat, fractions, product}
 use Rattle.exact.specs.Distance.{Long, Near}
-use Rattle.exact.specs.Turn.{Axis, about, total}
+use Rattle.exact.specs.Turn.{total}
 use Rattle.exact.specs.Facts.{one}
-use Rattle.rounding.specs.Value.{val}
-use Rattle.drift.specs.Laws.{exact, Kept, IsTurn, turned}
+use Rattle.drift.specs.Laws as Law
+use Rattle.drift.specs.Laws.{exact, Kept, turned}
 use Rattle.drift.specs.Drift.{count}
-use Rattle.quaternion.specs.Quaternions.{parts}
-use Rattle.quaternion.specs.Axes.{identity}
+pub use Rattle.drift.specs.Drift.{AxisFair, Told, hung}
 
 -- where k is e off p, and t is f off τ, which is at most a long.
 -- 2⁻⁴⁰ for what normalising moves, as k and t are of length 1 up to 2⁻⁴¹ each; 2⁻⁴⁵ for roundings
@@ -24,18 +23,12 @@ pub record Turn : Type 0 where
   pub float : Quat Float
   pub turn : Quat Frac
 
-pub record Fair (t : Turn) : Type 0 where
-  pub kept : Kept t.float
-  pub near : Near (exact t.float) (part 38) t.turn
-  pub long : Long t.turn (1ᶠ +ᶠ part 40)
+abbrev pub Fair : Turn → Type 0
+Fair t = Law.Fair t.float t.turn
 
 abbrev pub Fairs : List Turn → Type 0
 Fairs [] = Unit {0}
 Fairs (t ∷ ts) = Fair t × Fairs ts
-
--- a turn about an axis is fair, as it is made
-abbrev pub AxisFair : Type 0
-AxisFair = (axis : Axis) (v : Float) (q : Quat Float) → IsTurn axis v q → Fair (record { float = q; turn = about axis (val v) })
 
 -- what is kept after the turns, each from the right and normalised
 abbrev pub run : Quat Float → List Turn → Quat Float
@@ -51,15 +44,7 @@ abbrev pub Drift : Type 0
 Drift = (k : Quat Float) (p : Quat Frac) (e : Frac) (ts : List Turn) → Kept k → Near (exact k) e p → Fairs ts → e ≤ᶠ part 1 → length ts ≤ 4000
     → Kept (run k ts) × Near (exact (run k ts)) (e +ᶠ count (length ts) *ᶠ part 37) (total p (turns ts))
 
--- with a mount below that is d 2⁻³⁶ off: (d + n + 1) 2⁻³⁶
-abbrev pub Told : Type 0
-Told = (m k : Quat Float) (t p : Quat Frac) (d n : ℕ) → Kept m → Kept k → d ≤ 12 → n ≤ 4000 → Near (exact m) (count d *ᶠ part 36) t → Near (exact k) (count n *ᶠ part 37) p
-    → Kept (turned m k) × Near (exact (turned m k)) (count (d + n + 1) *ᶠ part 36) (product fractions t p)
-
--- a lamp is hung without a turn, turned n times, and stands over a mount of depth d
-abbrev pub hung : Quat Float
-hung = parts identity
-
+-- a lamp is hung without a turn, turned n times, and stands over a mount of depth d: what `Told` says of runs
 abbrev pub Lamp : Type 0
 Lamp = (m : Quat Float) (t : Quat Frac) (d : ℕ) (ts : List Turn) → Kept m → d ≤ 12 → Near (exact m) (count d *ᶠ part 36) t → Fairs ts → length ts ≤ 4000
     → Kept (turned m (run hung ts)) × Near (exact (turned m (run hung ts))) (count (d + length ts + 1) *ᶠ part 36) (product fractions t (total one (turns ts)))

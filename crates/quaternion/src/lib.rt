@@ -15,13 +15,11 @@ pub use dquat::DQuat;
 pub use matrices::FromQuat;
 
 // What a run of turns keeps of the exact product, and its beam.
-pub fn drift_stands() -> u8
+pub fn drift_stands()
     ensures step { Step }
     ensures fair { AxisFair }
     ensures drift { Drift }
     ensures told { Told }
     ensures lamp { Lamp }
     ensures beam { Beam }
-{
-    0
-}
+{}

@@ -1,5 +1,6 @@
 -- Error analysis by computing. A formula that is written over any operations is read four ways: on floats, on exact numbers, as a bound on their size and as one on their distance.
 -- `analyse (h ⊳ k ⊳ ∎) (λ x y. x ⟨*⟩ y ⟨-⟩ x) tt : Approx (sub (mul x y) x) (s * t - s) b e` from h : Approx x s .. and k : Approx y t ..; `analyse4` does the four parts of a quaternion.
+use lib.Ieee.Fits.{and_l, and_r}
 use Rattle.std.proofs.Common.{ℕ, zero, suc, Bool, true, ◌&&◌, T, pos}
 use lib.Ieee as F
 use lib.Ieee.{Float, binary64, add, sub, mul, fits}
@@ -7,7 +8,6 @@ use Rattle.std.specs.Float as S
 use Rattle.exact.specs.Fraction.{Frac, whole, ◌+ᶠ◌, ◌*ᶠ◌}
 use Rattle.exact.specs.Quat.{Ops, Quat}
 use Rattle.exact.proofs.Rational.{ℚ, ◌+◌, ◌*◌, ◌-◌, neg}
-use Rattle.exact.proofs.Order.{and_l, and_r}
 use Rattle.exact.proofs.Within.{0#}
 use Rattle.rounding.specs.Theorems.{limit}
 use Rattle.rounding.proofs.Approx.{◌≤ᵇ◌, u, tiny, grown, Approx, constant, plus, minus, times, opposite, looser}

@@ -1,5 +1,6 @@
 -- The calculus of errors. `Approx x t b e`: the float x rounds the number t with an error of e, and both are b in size at most.
 -- b and e are closed fractions, so each step's bounds compute and a condition on them is `tt`.
+use lib.Ieee.Fits.{and_l, and_r}
 use Rattle.std.proofs.Common.{◌≡◌, Bool, ◌&&◌, T, pos, sym, refl, ap, ◌∙◌, subst}
 use lib.Signed.{le_z}
 use lib.Ieee as F
@@ -10,7 +11,7 @@ use Rattle.exact.specs.Fraction.{Frac, whole, part, cross, inverse, ◌+ᶠ◌, 
 use Rattle.exact.specs.Fraction.{neg as negᶠ}
 use Rattle.exact.proofs.Ring.{con, ◌⊕◌, ◌⊗◌, ⊖◌, ◌⊝◌}
 use Rattle.exact.proofs.Rational.{ℚ, cls, ◌+◌, ◌*◌, neg, ◌-◌, ∅, ◌▸◌, ◌≐◌, ring}
-use Rattle.exact.proofs.Order.{◌≤◌, number, ◌⊞◌, ◌⊠◌, ◌≼◌, ◌by◌, ◌⇒◌, le, from_frac, and_l, and_r}
+use Rattle.exact.proofs.Order.{◌≤◌, number, ◌⊞◌, ◌⊠◌, ◌≼◌, ◌by◌, ◌⇒◌, le, from_frac}
 use Rattle.exact.proofs.Within.{0#, 0ₑ, 1ₑ, computes, ≤_trans, ≤_of, ◌within◌, within_≤, within_at, within_+, within_*, within_neg, within_over, within_nonneg, above, inverse_of, ◌≈⟨◌⟩◌, near, apart, near_≤, near_trans, near_+, near_neg, near_size, near_nonneg, near_product}
 use Rattle.exact.proofs.Within.{root as upto}
 use Rattle.rounding.specs.Value.{val, Is}

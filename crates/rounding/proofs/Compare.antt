@@ -1,10 +1,9 @@
 -- `lt` and `le` on finite floats decide the order of their values.
-use Rattle.std.proofs.Common.{◌≡◌, ℕ, ◌+◌, ◌*◌, Bool, true, false, ◌||◌, T, eqb, ◌⊎◌, ℤ, pos, ◌*ℤ◌, sym, refl, ap, ◌∙◌, subst, ap₂, inl, inr, eq-or-lt_of_le, arith, eqb→eq, ltb→lt, lt→ltb}
+use Rattle.std.proofs.Common.{◌≡◌, ℕ, ◌+◌, ◌*◌, Bool, true, false, ◌||◌, T, eqb, ◌⊎◌, ℤ, pos, ◌*ℤ◌, sym, refl, ap, ◌∙◌, ap₂, inl, inr, eq-or-lt_of_le, arith, eqb→eq, ltb→lt, lt→ltb}
 use Prim.Native.Nat as N
-use lib.Dec.{eqb_refl}
 use lib.Signed.{lt_z, le_z}
 use lib.Ieee.{Float, nan, inf, fin, up, down, below, level, lt, le}
-use lib.Ieee.Fits.{and_l, and_r, and_i}
+use lib.Ieee.Fits.{and_l, and_r, and_i, eq→eqb}
 use lib.Ieee.Scale.{finite}
 use borrow.Author.Differences.{neg_is, lt_T, le_T, lt_in, le_in, lt-true, lt-false, le-true, le-false}
 use borrow.Author.Differences.{up as up_z, down as down_z}
@@ -48,9 +47,6 @@ or_r : (a b : Bool) → T b → T (a || b)
 or_r true b t = tt
 or_r false b t = t
 
-eq_test : (a b : ℕ) → a ≡ b → T (eqb a b)
-eq_test a b e = subst (λ (k : ℕ). T (eqb a k)) e (eqb_refl a)
-
 level_out : (s : Bool) (a : ℕ) (t : Bool) (b : ℕ) → T (level s a t b) → up_z (signed s a) + down_z (signed t b) ≡ up_z (signed t b) + down_z (signed s a)
 level_out false a false b h = omega (arith, eqb→eq a b (and_l (eqb a b) true h))
 level_out true a true b h = omega (arith, eqb→eq a b (and_l (eqb a b) true h), neg_is (pos a), neg_is (pos b))
@@ -58,10 +54,10 @@ level_out false a true b h = omega (arith, eqb→eq a b (and_l (eqb a b) (eqb a 
 level_out true a false b h = omega (arith, eqb→eq a b (and_l (eqb a b) (eqb a 0) h), eqb→eq a 0 (and_r (eqb a b) (eqb a 0) h), neg_is (pos a))
 
 level_in : (s : Bool) (a : ℕ) (t : Bool) (b : ℕ) → up_z (signed s a) + down_z (signed t b) ≡ up_z (signed t b) + down_z (signed s a) → T (level s a t b)
-level_in false a false b h = and_i (eqb a b) true (eq_test a b (omega arith)) tt
-level_in true a true b h = and_i (eqb a b) true (eq_test a b (omega (arith, neg_is (pos a), neg_is (pos b)))) tt
-level_in false a true b h = and_i (eqb a b) (eqb a 0) (eq_test a b (omega (arith, neg_is (pos b)))) (eq_test a 0 (omega (arith, neg_is (pos b))))
-level_in true a false b h = and_i (eqb a b) (eqb a 0) (eq_test a b (omega (arith, neg_is (pos a)))) (eq_test a 0 (omega (arith, neg_is (pos a))))
+level_in false a false b h = and_i (eqb a b) true (eq→eqb (omega arith)) tt
+level_in true a true b h = and_i (eqb a b) true (eq→eqb (omega (arith, neg_is (pos a), neg_is (pos b)))) tt
+level_in false a true b h = and_i (eqb a b) (eqb a 0) (eq→eqb (omega (arith, neg_is (pos b)))) (eq→eqb (omega (arith, neg_is (pos b))))
+level_in true a false b h = and_i (eqb a b) (eqb a 0) (eq→eqb (omega (arith, neg_is (pos a)))) (eq→eqb (omega (arith, neg_is (pos a))))
 
 upto_out : (s : Bool) (a : ℕ) (t : Bool) (b : ℕ) → T (below s a t b || level s a t b) → N.◌≤◌ (up_z (signed s a) + down_z (signed t b)) (up_z (signed t b) + down_z (signed s a))
 upto_out s a t b h = elim (or_split (below s a t b) (level s a t b) h) [ inl u ↦ omega (arith, below_out s a t b u) | inr u ↦ omega (arith, level_out s a t b u) ]

@@ -5,12 +5,12 @@ use lib.Ieee.{Float, nan, inf, fin, binary64, fits, up, down, odd, of_fields, of
 use lib.Ieee.Back.{round_whole}
 use lib.Ieee.Bits.{of_bits-fits}
 use lib.Ieee.Exact.{HasValue, odd_sign}
-use lib.Ieee.Fits.{down_pos, of_int-fits}
+use lib.Ieee.Fits.{down_pos, of_int-fits, and_l, and_r}
 use lib.Ieee.Scale.{finite}
 use Rattle.exact.specs.Fraction.{◌over◌, inverse}
 use Rattle.exact.proofs.Ring.{◌⊗◌, ⊖◌}
 use Rattle.exact.proofs.Rational.{ℚ, cls, ◌*◌, neg_cls, ∅, ◌▸◌, ◌≐◌, ring}
-use Rattle.exact.proofs.Order.{◌≤◌, ◌<◌, ◌⊠◌, ◌≼◌, ◌by◌, ◌⇒◌, le, and_l, and_r}
+use Rattle.exact.proofs.Order.{◌≤◌, ◌<◌, ◌⊠◌, ◌≼◌, ◌by◌, ◌⇒◌, le}
 use Rattle.exact.proofs.Within.{0#, 1#, 0ₑ, 1ₑ, num, computes, closed, ≤_trans, ≤_of, 0≤num, 0≤*, not_≤, cancel, ◌≈⟨◌⟩◌, num_≤, num_*, <_not}
 use Rattle.exact.proofs.Numbers.{≤_num, over_num, 0<num}
 use Rattle.rounding.specs.Value.{signed, val, L, Is, field, units, spelled}

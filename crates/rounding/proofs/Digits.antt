@@ -3,7 +3,7 @@ use Rattle.std.proofs.Common.{◌≡◌, ℕ, zero, suc, ◌+◌, ◌-◌, ◌*�
 use native.Mathlib.Nat.{mul-sub, pow-succ', eq_of_mul-eq-mul_right}
 use lib.Ieee.{Float, nan, inf, fin, binary64, low, up, down}
 use lib.Ieee.Scale.{finite}
-use Rattle.rounding.proofs.Ticks.{Fits, shift, shorter, fit_parts, size, has_value}
+use Rattle.rounding.proofs.Ticks.{Fits, common, shift, shorter, fit_parts, size, has_value}
 
 -- w is q * 2 ^ j with a q of 53 digits
 pub record Digits (w : ℕ) : Type 0 where
@@ -35,9 +35,6 @@ float_digits (inf s) f p = absurd p
 float_digits (fin s m e) f p = digits_by m e (low binary64) (size (fin s m e)) (few s m e f) (has_value (fin s m e) f p).1 (fine s m e f)
 
 -- ---- so is the difference of two within a factor of two
-common : (r i j : ℕ) → i ≤ j → r * 2 ^ j ≡ r * 2 ^ (j - i) * 2 ^ i
-common r i j h = ap (λ (x : ℕ). r * x) (ap (λ (x : ℕ). 2 ^ x) (sym (native.Mathlib.Nat.sub-add_cancel h)) ∙ pow-add 2 (j - i) i) ∙ sym (mul_assoc r (2 ^ (j - i)) (2 ^ i))
-
 -- w is the difference of two multiples of p, and at most q * p
 near : (w a b q i : ℕ) → w ≡ (a - b) * 2 ^ i → w ≤ q * 2 ^ i → q < 2 ^ 53 → Digits w
 near w a b q i e l h =

@@ -1,4 +1,5 @@
 -- Where an operation is exact: f64 holds a number of 53 binary digits and zeros after them, and `round` keeps what f64 holds and passes no such number.
+use native.Mathlib.Nat.{sub-le}
 use Rattle.std.proofs.Common.{◌≡◌, ℕ, ◌^◌, Bool, true, false, T, ◌⊎◌, ℤ, pos, ◌*ℤ◌, nat_abs, sym, refl, ap, ◌∙◌, subst, ap₂, inl, inr, lt_of_le_of_lt, eq-zero-or-pos, mul-pos, arith, lit<, pow_pos}
 use mathlib.Core.Quot.{sound}
 use Prim.Native.Nat as N
@@ -194,16 +195,13 @@ module _ {x y : Float} (i : Is x) (j : Is y) (h : # y * 2⁻ 1 ≤ # x) (k : # x
   difference_short = elim (eq-zero-or-pos (N.◌-◌ (size x) (size y))) [
     | inl z ↦
         let l : N.◌≤◌ (size x) (size y) = omega arith in
-        short_of true (N.◌-◌ (size y) (size x)) (sterbenz (size x) (size y) (float_digits x i.fit i.fin) (float_digits y j.fit j.fin) l y≤2x) (lt_of_le_of_lt (less (size y) (size x)) (size_in_range j))
+        short_of true (N.◌-◌ (size y) (size x)) (sterbenz (size x) (size y) (float_digits x i.fit i.fin) (float_digits y j.fit j.fin) l y≤2x) (lt_of_le_of_lt (sub-le (size y) (size x)) (size_in_range j))
         (whole_neg (pos (N.◌-◌ (size y) (size x))) ∙ ap neg (num_sub (size y) (size x) l ∙ ap₂ (λ a b. a - b) Y X) ∙ ring (# x ▸ # y ▸ Λ ▸ ∅) (λ x y Λ. ⊖ (y ⊗ Λ ⊝ x ⊗ Λ) ≐ (x ⊝ y) ⊗ Λ) tt)
     | inr p ↦
         let l : N.◌≤◌ (size y) (size x) = omega arith in
-        short_of false (N.◌-◌ (size x) (size y)) (sterbenz (size y) (size x) (float_digits y j.fit j.fin) (float_digits x i.fit i.fin) l x≤2y) (lt_of_le_of_lt (less (size x) (size y)) (size_in_range i))
+        short_of false (N.◌-◌ (size x) (size y)) (sterbenz (size y) (size x) (float_digits y j.fit j.fin) (float_digits x i.fit i.fin) l x≤2y) (lt_of_le_of_lt (sub-le (size x) (size y)) (size_in_range i))
         (num_sub (size x) (size y) l ∙ ap₂ (λ a b. a - b) X Y ∙ ring (# x ▸ # y ▸ Λ ▸ ∅) (λ x y Λ. x ⊗ Λ ⊝ y ⊗ Λ ≐ (x ⊝ y) ⊗ Λ) tt)
   ]
-    where
-      less : (a b : ℕ) → N.◌≤◌ (N.◌-◌ a b) a
-      less a b = omega arith
 
   pub neighbours_exact : Exact (sub binary64 x y) (# x - # y)
   neighbours_exact = difference_exact i j difference_short

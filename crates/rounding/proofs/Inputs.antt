@@ -1,5 +1,6 @@
 -- Each operation hands `round` its exact result: here as a fraction of whole numbers of ticks.
-use Rattle.std.proofs.Common.{◌≡◌, ℕ, ◌+◌, ◌-◌, ◌*◌, ◌^◌, ◌<◌, ◌≤◌, Bool, true, false, T, eqb, ◌⊎◌, pos, ◌+ℤ◌, neg_ℤ, sym, refl, ap, ◌∙◌, subst, inl, inr, mul-le-mul_right, mul_assoc, mul_comm, eq-zero-or-pos, lt_of_mul-lt-mul_right, mul-lt-mul_of_pos_right, mul-pos, mul_right_comm, mul_left_comm, arith, pow_pos, le-ltb, lt-ltb}
+use Rattle.std.proofs.Common.{◌≡◌, ℕ, ◌+◌, ◌-◌, ◌*◌, ◌^◌, ◌<◌, ◌≤◌, Bool, true, false, T, eqb, pos, ◌+ℤ◌, neg_ℤ, sym, refl, ap, ◌∙◌, subst, inl, inr, mul-le-mul_right, mul_assoc, mul_comm, lt_of_mul-lt-mul_right, mul-lt-mul_of_pos_right, mul-pos, mul_right_comm, mul_left_comm, arith, pow_pos, le-ltb, lt-ltb}
+use Rattle.std.proofs.lemmas.Bool.{cases_order}
 use mathlib.Core.Bool.{beq}
 use native.Mathlib.Nat.{mul-mul-mul_comm, eq_of_mul-eq-mul_right}
 use lib.Ieee.{Float, nan, inf, fin, binary64, low, up, down, unlike, round, sum, add, mul, div}
@@ -43,9 +44,6 @@ unfolding sum
 sum_level true t a b c u e = let z : a - b ≡ 0 = omega arith in rw (u, le-ltb a b (omega arith), le-ltb b a (omega arith), z) refl
 sum_level false t a b c u e = let z : a - b ≡ 0 = omega arith in rw (u, le-ltb a b (omega arith), z) refl
 
-order : (a b : ℕ) → (a < b) ⊎ ((a ≡ b) ⊎ (b < a))
-order a b = elim (eq-zero-or-pos (b - a)) [ inl z ↦ inr (elim (eq-zero-or-pos (a - b)) [ inl y ↦ inl (omega arith) | inr p ↦ inr (omega arith) ]) | inr p ↦ inl (omega arith) ]
-
 -- what a sum rounds: the sign, and the size over c. a and b are over c, and x and y are the same numbers over c'
 abbrev Sums : Bool → ℕ → Bool → ℕ → ℕ → ℕ → ℕ → ℕ → Type 0
 Sums s a t b c x y c' = (r : Bool) × (w : ℕ) × (sum binary64 s a t b c ≡ round binary64 r w c') × (signed s x +ℤ signed t y ≡ signed r w)
@@ -75,10 +73,10 @@ unlike_signs false true u a b = (
 
 unlike_sum : (s t : Bool) (a b c x y c' : ℕ) → beq s t ≡ false → 0 < c → 0 < c' → a * c' ≡ x * c → b * c' ≡ y * c → Sums s a t b c x y c'
 unlike_sum s t a b c x y c' u C C' p q =
-    elim (order a b) [
-      | inl l ↦ (t, y - x, sum_less s t a b c u l ∙ round_same binary64 t (b - a) c (y - x) c' C C' (take a b c x y c' l p q), (unlike_signs s t u x y).0 (smaller a b c x y c' C' l p q))
+    elim (cases_order a b) [
+      | inl e ↦ (false, 0, sum_level s t a b c u e ∙ round_same binary64 false 0 c 0 c' C C' (omega arith), (unlike_signs s t u x y).2 (eq_of_mul-eq-mul_right c C x y (omega (arith, ap (λ (k : ℕ). k * c') e))))
       | inr r ↦ elim r [
-        | inl e ↦ (false, 0, sum_level s t a b c u e ∙ round_same binary64 false 0 c 0 c' C C' (omega arith), (unlike_signs s t u x y).2 (eq_of_mul-eq-mul_right c C x y (omega (arith, ap (λ (k : ℕ). k * c') e))))
+        | inl l ↦ (t, y - x, sum_less s t a b c u l ∙ round_same binary64 t (b - a) c (y - x) c' C C' (take a b c x y c' l p q), (unlike_signs s t u x y).0 (smaller a b c x y c' C' l p q))
         | inr l ↦ (s, x - y, sum_more s t a b c u l ∙ round_same binary64 s (a - b) c (x - y) c' C C' (take b a c y x c' l q p), (unlike_signs s t u x y).1 (smaller b a c y x c' C' l q p))
       ]
     ]

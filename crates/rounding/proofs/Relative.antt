@@ -1,10 +1,11 @@
 -- Errors in proportion: `Share x t c l` says that the float x rounds t, which is not below 0, but for the share c of t and for l. So sums of squares lose nothing to cancellation.
+use lib.Ieee.Fits.{and_l, and_r}
 use Rattle.std.proofs.Common.{◌&&◌, T, pos}
 use lib.Ieee.{Float, binary64, add, mul}
 use Rattle.exact.specs.Fraction.{Frac, whole, ◌+ᶠ◌, ◌*ᶠ◌}
 use Rattle.exact.proofs.Ring.{con, ◌⊕◌, ◌⊗◌}
 use Rattle.exact.proofs.Rational.{ℚ, cls, ◌+◌, ◌*◌, ∅, ◌▸◌, ◌≐◌, ring}
-use Rattle.exact.proofs.Order.{◌≤◌, number, ◌⊞◌, ◌⊠◌, ◌≼◌, ◌by◌, ◌⇒◌, le, and_l, and_r}
+use Rattle.exact.proofs.Order.{◌≤◌, number, ◌⊞◌, ◌⊠◌, ◌≼◌, ◌by◌, ◌⇒◌, le}
 use Rattle.exact.proofs.Within.{0#, 0ₑ, 1ₑ, computes, ≤_trans, ≤_of, 0≤+, 0≤square, ◌≈⟨◌⟩◌, near_≤, near_+, within_self, near_size}
 use Rattle.rounding.specs.Value.{Is}
 use Rattle.rounding.specs.Theorems.{limit}

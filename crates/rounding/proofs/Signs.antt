@@ -1,16 +1,13 @@
 -- Signed whole numbers: `signed s n` is n with the sign s. An integer z is `up_z z - down_z z`, the form that `omega` reads.
-use Rattle.std.proofs.Common.{◌≡◌, ℕ, zero, suc, ◌+◌, ◌*◌, Bool, true, false, not, ℤ, pos, negsuc, ◌*ℤ◌, neg_ℤ, nat_abs, refl, ap, ◌∙◌, arith}
+use Rattle.std.proofs.Common.{◌≡◌, ℕ, zero, suc, ◌+◌, ◌*◌, Bool, true, false, not, ℤ, pos, ◌*ℤ◌, neg_ℤ, nat_abs, refl, ap, ◌∙◌, arith}
+use Rattle.std.proofs.lemmas.Int.{unsigned_abs-mul}
 use lib.Ieee.{unlike}
 use borrow.Author.Differences.{neg_is, product_is, same_in}
 use borrow.Author.Differences.{up as up_z, down as down_z}
 use Rattle.rounding.specs.Value.{signed}
 
-abs_up_down : (z : ℤ) → nat_abs z ≡ up_z z + down_z z
-abs_up_down (pos n) = omega arith
-abs_up_down (negsuc n) = omega arith
-
 pub abs_scale : (z : ℤ) (n : ℕ) → nat_abs (z *ℤ pos n) ≡ nat_abs z * n
-abs_scale z n = omega (arith, abs_up_down (z *ℤ pos n), product_is z (pos n), ap (λ (k : ℕ). k * n) (abs_up_down z))
+abs_scale z n = unsigned_abs-mul z (pos n)
 
 pub signed_is : (s : Bool) (n : ℕ) → (up_z (signed s n) + down_z (signed s n) ≡ n) × (nat_abs (signed s n) ≡ n)
 signed_is false n = omega arith

@@ -1,5 +1,5 @@
 -- A float that fits is a whole number of ticks.
-use Rattle.std.proofs.Common.{◌≡◌, ℕ, zero, suc, ◌+◌, ◌-◌, ◌*◌, ◌/◌, ◌%◌, ◌^◌, ◌<◌, ◌≤◌, Bool, true, false, ◌&&◌, T, eqb, ltb, leb, ℤ, pos, negsuc, ◌*ℤ◌, neg_ℤ, nat_abs, sym, refl, ap, ◌∙◌, lt_of_not-le, zero-mul, mul-one, not-le_of_lt, mul-div_cancel, arith, ltb→lt, leb→le, pow_pos, pow-add}
+use Rattle.std.proofs.Common.{◌≡◌, ℕ, zero, suc, ◌-◌, ◌*◌, ◌/◌, ◌%◌, ◌^◌, ◌<◌, ◌≤◌, Bool, true, false, ◌&&◌, T, eqb, ltb, leb, ℤ, pos, negsuc, ◌*ℤ◌, neg_ℤ, nat_abs, sym, refl, ap, ◌∙◌, lt_of_not-le, zero-mul, mul-one, mul_assoc, not-le_of_lt, mul-div_cancel, arith, ltb→lt, leb→le, pow_pos, pow-add}
 use native.Mathlib.Nat.{zero-div}
 use lib.Pow.{pow-lt}
 use lib.Ieee.{Float, nan, inf, fin, binary64, low, up, down, fits, neg}
@@ -36,10 +36,11 @@ ticks_of (inf t) s a v = absurd v
 ticks_of (fin t m e) s a v = ((λ i. signed (v.0 i) (m * up e * 2 ^ 1074 / down e)) ∙ ap (signed s) (ap (λ (k : ℕ). k / down e) v.1 ∙ mul-div_cancel a (down_pos e)), tt)
 
 -- ---- a float that fits has such a value
+pub common : (r i j : ℕ) → i ≤ j → r * 2 ^ j ≡ r * 2 ^ (j - i) * 2 ^ i
+common r i j h = ap (λ (x : ℕ). r * x) (ap (λ (x : ℕ). 2 ^ x) (sym (native.Mathlib.Nat.sub-add_cancel h)) ∙ pow-add 2 (j - i) i) ∙ sym (mul_assoc r (2 ^ (j - i)) (2 ^ i))
+
 pub shift : (m l k : ℕ) → k ≤ l → m * 1 * 2 ^ l ≡ m * 2 ^ (l - k) * 2 ^ k
-shift m l k h =
-    let e : l - k + k ≡ l = omega arith in
-    omega (arith, ap (λ (x : ℕ). m * 2 ^ x) e, ap (λ (x : ℕ). m * x) (pow-add 2 (l - k) k))
+shift m l k h = ap (λ (x : ℕ). x * 2 ^ l) (mul-one m) ∙ common m k l h
 
 pub shorter : (l k : ℕ) → 2 ^ k ≤ 2 ^ l → k ≤ l
 shorter l k h = native.Mathlib.Nat.le_of_suc-le-suc (lt_of_not-le (λ (g : suc l ≤ k). not-le_of_lt (pow-lt g) h))

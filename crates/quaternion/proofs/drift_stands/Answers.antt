@@ -1,5 +1,7 @@
+use Rattle.drift.proofs.Fair.{axis_fair}
+use Rattle.drift.proofs.Drift.{told}
 use Rattle.drift.proofs.Images.{beamed}
-use Rattle.quaternion.proofs.Drift.{stepped, axis_fair, drift, told, lamp}
+use Rattle.quaternion.proofs.Drift.{stepped, drift, lamp}
 use Rattle.quaternion.proofs.drift_stands.Goals as goal
 
 pub returns : goal.returns
