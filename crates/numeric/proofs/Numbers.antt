@@ -1,9 +1,9 @@
 -- Rational numbers: closed ones, the larger of two, opposites and magnitudes.
-use Rattle.std.proofs.Common.{◌≡◌, zero, T, ◌⊎◌, pos, ap, ◌∙◌, subst, inl, inr}
+use Rattle.std.proofs.Common.{◌≡◌, zero, T, pos, ap, ◌∙◌, inl, inr}
 use Rattle.exact.specs.Fraction.{Frac, whole}
-use Rattle.exact.proofs.Ring.{⊖◌, ◌⊝◌}
-use Rattle.exact.proofs.Rational.{ℚ, cls, neg, ◌-◌, nonneg, ∅, ◌▸◌, ◌≐◌, ring}
-use Rattle.exact.proofs.Order.{◌≤◌, number, ◌⊠◌, Claim, ◌≼◌, ◌by◌, ◌⇒◌, Holds, proves, nothing, le, sign}
+use Rattle.exact.proofs.Ring.{⊖◌}
+use Rattle.exact.proofs.Rational.{ℚ, cls, neg, ∅, ◌▸◌, ◌≐◌, ring}
+use Rattle.exact.proofs.Order.{◌≤◌, number, ◌⊠◌, Claim, ◌≼◌, ◌by◌, ◌⇒◌, Holds, proves, nothing, le}
 use Rattle.exact.proofs.Within.{0#, 0ₑ, computes, closed, ≤_trans, ≤_of, ≤_antisym, ◌within◌, within_at, within_self, within_neg}
 use Rattle.rounding.specs.Theorems.{magnitude}
 use Rattle.rounding.proofs.Stated.{either}
@@ -11,13 +11,6 @@ use Rattle.rounding.proofs.Stated.{either}
 -- closed numbers: `fixed (con a ⊗ con b ≼ con c) tt`
 pub fixed : (c : Claim) → T (proves zero (nothing ∅) (c by number (whole (pos 0)))) → Holds ∅ c
 fixed c = le ∅ (c by number (whole (pos 0)))
-
-pub total : (x y : ℚ) → (x ≤ y) ⊎ (y ≤ x)
-total x y = go (sign (y - x))
-  where
-    go : T (nonneg (y - x)) ⊎ T (nonneg (neg (y - x))) → (x ≤ y) ⊎ (y ≤ x)
-    go (inl t) = inl (record { by = t })
-    go (inr t) = inr (record { by = subst (λ z. T (nonneg z)) (ring (x ▸ y ▸ ∅) (λ x y. ⊖ (y ⊝ x) ≐ x ⊝ y) tt) t })
 
 pub opposite : {x y : ℚ} → y ≡ neg x → neg y ≡ x
 opposite {x} e = ap neg e ∙ ring (x ▸ ∅) (λ x. ⊖ ⊖ x ≐ x) tt

@@ -6,14 +6,14 @@ use Rattle.exact.specs.Sine.{quarter, turns, sine}
 use Rattle.exact.proofs.Ring.{con, ◌⊕◌, ◌⊗◌, ◌⊝◌}
 use Rattle.exact.proofs.Rational.{ℚ, cls, ◌*◌, ∅, ◌▸◌, ◌≐◌, ring}
 use Rattle.exact.proofs.Order.{◌≤◌, half, number, ◌⊠◌, ◌≼◌, ◌by◌, ◌⇒◌, le, to_frac}
-use Rattle.exact.proofs.Within.{1#, 0ₑ, 2⁻, 0≤part, 0≤*, ◌within◌, within_+, within_*, within_≤, within_neg, within_at, within_self, within_nonneg, ◌≈⟨◌⟩◌, near_≤, near_at, near_self}
+use Rattle.exact.proofs.Within.{≤_total, 1#, 0ₑ, 2⁻, 0≤part, 0≤*, ◌within◌, within_+, within_*, within_≤, within_neg, within_at, within_self, within_nonneg, ◌≈⟨◌⟩◌, near_≤, near_at, near_self}
 use Rattle.exact.proofs.Pairs.{◌≋⟨◌⟩◌, ≋_at, ≋_sym, quarters}
 use Rattle.exact.proofs.Series.{Sᵥ, wave}
 use Rattle.exact.proofs.Waves.{eighth}
 use Rattle.exact.proofs.Sines.{left, wave_by, exact, exact_is, exact_any, rest_small}
 use Rattle.exact.proofs.Numbers.{abs_≤}
 use Rattle.rounding.proofs.Approx.{known_≤}
-use Rattle.numeric.proofs.Numbers.{fixed, total}
+use Rattle.numeric.proofs.Numbers.{fixed}
 
 -- no quarter turns
 none_left : (x : ℚ) → left x (pos 0) ≡ x
@@ -41,7 +41,7 @@ none_nearest v h = exact_is v ∙ ap (wave_by (cls v)) (below_one (turns v) (wit
 
 -- from 1/2 on 2^-73 is a share of 2^-72 at most
 pub small_sine : (v : Frac) {w : ℚ} → cls v within w → w ≤ 1# → cls (sine v) ≈⟨ w * 2⁻ 72 ⟩ Sᵥ (cls v)
-small_sine v {w} h l = elim (total w (cls half)) [
+small_sine v {w} h l = elim (≤_total w (cls half)) [
   | inl k ↦ near_at (ap (λ p. p.s) (sym (none_nearest v (within_≤ h k)))) refl (near_self (Sᵥ (cls v)) (0≤* (within_nonneg h) (0≤part 72)))
   | inr k ↦ near_≤ (small_near v (within_≤ h l)).of_s (le (w ▸ ∅) (λ w. con half ≼ w ⇒ λ k. con (part 73) ≼ w ⊗ con (part 72) by number (part 72) ⊠ k) tt k)
 ]

@@ -6,7 +6,7 @@ use Rattle.exact.specs.Fraction.{part, ◌over◌, ◌-ᶠ◌}
 use Rattle.exact.proofs.Ring.{con, ◌⊕◌, ◌⊗◌}
 use Rattle.exact.proofs.Rational.{ℚ, cls, ◌+◌, ◌*◌, ∅, ◌▸◌}
 use Rattle.exact.proofs.Order.{◌≤◌, number, ◌⊞◌, ◌⊠◌, ◌≼◌, ◌by◌, ◌⇒◌, le}
-use Rattle.exact.proofs.Within.{0#, 1#, 0ₑ, 1ₑ, num, 2⁻, ≤_refl, ≤_trans, ◌within◌, within_≤, within_at, within_self, within_nonneg, ◌≈⟨◌⟩◌, apart, near_at, near_≤, near_trans}
+use Rattle.exact.proofs.Within.{≤_total, 0#, 1#, 0ₑ, 1ₑ, num, 2⁻, ≤_refl, ≤_trans, ◌within◌, within_≤, within_at, within_self, within_nonneg, ◌≈⟨◌⟩◌, apart, near_at, near_≤, near_trans}
 use Rattle.exact.proofs.Pairs.{Pair, pair, ◌≋⟨◌⟩◌, ≋_at, ≋_≤, ≋_trans, quarters, quarters_near}
 use Rattle.exact.proofs.Pairs.{turned as Turned_pair}
 use Rattle.exact.proofs.Series.{Sᵥ, wave}
@@ -16,7 +16,7 @@ use Rattle.rounding.specs.Value.{val, Is}
 use Rattle.rounding.proofs.Values.{#◌, neg_value, neg_is}
 use Rattle.rounding.proofs.Approx.{known_≤}
 use Rattle.numeric.specs.Sine.{sin_kernel, cos_kernel, quarter_turns, remainder, quarter, turned, upward}
-use Rattle.numeric.proofs.Numbers.{fixed, total}
+use Rattle.numeric.proofs.Numbers.{fixed}
 use Rattle.numeric.proofs.Kernels.{sin_kernel_near, cos_kernel_near}
 use Rattle.numeric.proofs.Small.{small_near}
 use Rattle.numeric.proofs.Reduction.{left_small, no_turns, remainder_near, remainder_small, remainder_none}
@@ -84,7 +84,7 @@ module _ {a : Float} (i : Is a) (0≤a : 0# ≤ # a) (a≤ : # a ≤ num 1000) w
 
   -- from there on 2^-47 and 2^-73 are less than 3/4 · 2^-45
   pub upward_sharp : {w : ℚ} → 2⁻ 27 ≤ # a → # a within w → w ≤ 1# → # (upward a).0 ≈⟨ w * 2⁻ 45 ⟩ Sᵥ (# a)
-  upward_sharp {w} low h one = elim (total (# a) (cls (pos 3 over 4))) [
+  upward_sharp {w} low h one = elim (≤_total (# a) (cls (pos 3 over 4))) [
     | inl l ↦ near_≤ (kernel_sharp low l) (le (# a ▸ w ▸ ∅) (λ a w. a ≼ w ⇒ λ h. 0ₑ ≼ w ⇒ λ k. a ⊗ con (part 48) ≼ w ⊗ con (part 45) by h ⊠ number (part 48) ⊞ k ⊠ number (part 45 -ᶠ part 48)) tt h.up (within_nonneg h))
     | inr l ↦ near_≤ (near_trans upward_near.near.of_s (small_near (val a) (within_≤ h one)).of_s)
         (le (# a ▸ w ▸ ∅) (λ a w. con (pos 3 over 4) ≼ a ⇒ λ l. a ≼ w ⇒ λ h. con (part 47) ⊕ con (part 73) ≼ w ⊗ con (part 45) by number (part 45) ⊠ (l ⊞ h)) tt l h.up)

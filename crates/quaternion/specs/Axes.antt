@@ -20,10 +20,7 @@ use Rattle.vectors.specs.declared.dvec2.DVec2.{DVec2}
 use Rattle.vectors.specs.declared.dvec3.DVec3.{DVec3}
 use Rattle.quaternion.specs.declared.dquat.DQuat.{DQuat}
 use Rattle.drift.specs.Tests.{finite_fault4}
-use Rattle.quaternion.specs.Quaternions.{quat, whole}
-
-abbrev pub identity : DQuat
-identity = quat zero zero zero one
+use Rattle.quaternion.specs.Quaternions.{quat, whole, identity}
 
 -- ---- tests of a vector
 

@@ -6,7 +6,7 @@ use Rattle.fault.specs.Answers.{unless}
 use Rattle.fault.specs.declared.RotationFault.{RotationFault}
 use Rattle.fault.specs.declared.RotationFault.TheVariants.{TooShort}
 use Rattle.exact.specs.Quat.{Quat}
-use Rattle.numeric.specs.Floats.{◌⊗◌, bits, size, zero, half}
+use Rattle.numeric.specs.Floats.{◌⊗◌, bits, size, zero, half, one}
 use Rattle.numeric.specs.Sine.{sin_float, cos_float}
 use Rattle.quaternion.specs.declared.dquat.DQuat.{DQuat}
 
@@ -18,6 +18,9 @@ parts q = record { x = q.x; y = q.y; z = q.z; w = q.w }
 
 abbrev pub whole : Quat Float → DQuat
 whole q = quat q.x q.y q.z q.w
+
+abbrev pub identity : DQuat
+identity = quat zero zero zero one
 
 -- the four numbers of a list
 abbrev pub listed : List Float → DQuat

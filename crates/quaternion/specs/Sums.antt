@@ -3,8 +3,8 @@ use Rattle.std.specs.Prelude.{List, fold}
 use Rattle.exact.specs.Quat.{plus, product}
 use Rattle.rounding.specs.Value.{floats}
 use Rattle.quaternion.specs.declared.dquat.DQuat.{DQuat}
-use Rattle.numeric.specs.Floats.{zero, one}
-use Rattle.quaternion.specs.Quaternions.{quat, parts, whole}
+use Rattle.numeric.specs.Floats.{zero}
+use Rattle.quaternion.specs.Quaternions.{quat, parts, whole, identity}
 
 abbrev pub added : DQuat → DQuat → DQuat
 added p q = whole (plus floats (parts p) (parts q))
@@ -14,9 +14,6 @@ times p q = whole (product floats (parts p) (parts q))
 
 abbrev pub nothing : DQuat
 nothing = quat zero zero zero zero
-
-abbrev pub identity : DQuat
-identity = quat zero zero zero one
 
 abbrev pub summed : List DQuat → DQuat
 summed qs = fold added nothing qs
