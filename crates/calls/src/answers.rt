@@ -1,15 +1,13 @@
-// What a call answered, and how it is written.
-use fault::{NumberFault, RotationFault};
+// What a call gives, and how it is written.
+use fault::RotationFault;
 use matrix::DMat3;
 use quaternion::DQuat;
-use std::alloc::{AllocError, Global};
+use std::fmt;
 use std::num::f64_to_bits_with_nan;
 use vectors::{BVec4, DVec3, DVec4};
 
 #[derive(Clone, Copy)]
-pub(crate) enum Answer {
-    Unknown,
-    Refused(u8),
+pub(crate) enum Value {
     Flag(bool),
     Count(u32),
     Axes(usize, usize, usize),
@@ -21,129 +19,152 @@ pub(crate) enum Answer {
     Flags(BVec4),
 }
 
-impl Answer {
-    pub(crate) fn number(r: Result<f64, NumberFault>) -> Answer {
-        match r {
-            Ok(x) => Answer::One(x),
-            Err(fault) => Answer::Refused(fault.number()),
-        }
-    }
+pub(crate) type Answer = Result<Value, RotationFault>;
 
-    pub(crate) fn one(r: Result<f64, RotationFault>) -> Answer {
-        match r {
-            Ok(x) => Answer::One(x),
-            Err(fault) => Answer::Refused(fault.number()),
-        }
-    }
+// Of what cannot be refused.
+pub(crate) fn plain<T>(given: T) -> Answer
+where
+    Value: From<T>,
+{
+    Ok(Value::from(given))
+}
 
-    pub(crate) fn angles(r: Result<(f64, f64, f64), RotationFault>) -> Answer {
-        match r {
-            Ok((a, b, c)) => Answer::Three(DVec3::new(a, b, c)),
-            Err(fault) => Answer::Refused(fault.number()),
-        }
-    }
+pub(crate) fn answer<T, E>(given: Result<T, E>) -> Answer
+where
+    Value: From<T>,
+    RotationFault: From<E>,
+{
+    Ok(Value::from(given?))
+}
 
-    pub(crate) fn three(r: Result<DVec3, RotationFault>) -> Answer {
-        match r {
-            Ok(v) => Answer::Three(v),
-            Err(fault) => Answer::Refused(fault.number()),
-        }
+impl From<bool> for Value {
+    fn from(b: bool) -> Value {
+        Value::Flag(b)
     }
+}
 
-    pub(crate) fn axis_angle(r: Result<(DVec3, f64), RotationFault>) -> Answer {
-        match r {
-            Ok((v, a)) => Answer::Four(DVec4::new(v.x, v.y, v.z, a)),
-            Err(fault) => Answer::Refused(fault.number()),
-        }
+impl From<u32> for Value {
+    fn from(n: u32) -> Value {
+        Value::Count(n)
     }
+}
 
-    pub(crate) fn four(r: Result<DVec4, RotationFault>) -> Answer {
-        match r {
-            Ok(v) => Answer::Four(v),
-            Err(fault) => Answer::Refused(fault.number()),
-        }
+impl From<(usize, usize, usize)> for Value {
+    fn from(axes: (usize, usize, usize)) -> Value {
+        Value::Axes(axes.0, axes.1, axes.2)
     }
+}
 
-    pub(crate) fn rotation(r: Result<DQuat, RotationFault>) -> Answer {
-        match r {
-            Ok(q) => Answer::Four(q.to_vec4()),
-            Err(fault) => Answer::Refused(fault.number()),
-        }
+impl From<f64> for Value {
+    fn from(x: f64) -> Value {
+        Value::One(x)
     }
+}
 
-    pub(crate) fn matrix(r: Result<DMat3, RotationFault>) -> Answer {
-        match r {
-            Ok(m) => Answer::Nine(m),
-            Err(fault) => Answer::Refused(fault.number()),
-        }
+impl From<(f64, f64)> for Value {
+    fn from(pair: (f64, f64)) -> Value {
+        Value::Two(pair.0, pair.1)
     }
+}
 
-    pub(crate) fn flag(r: Result<bool, RotationFault>) -> Answer {
-        match r {
-            Ok(b) => Answer::Flag(b),
-            Err(fault) => Answer::Refused(fault.number()),
+impl From<(f64, f64, f64)> for Value {
+    fn from(angles: (f64, f64, f64)) -> Value {
+        Value::Three(DVec3::new(angles.0, angles.1, angles.2))
+    }
+}
+
+impl From<DVec3> for Value {
+    fn from(v: DVec3) -> Value {
+        Value::Three(v)
+    }
+}
+
+impl From<(DVec3, f64)> for Value {
+    fn from(turn: (DVec3, f64)) -> Value {
+        Value::Four(DVec4::new(turn.0.x, turn.0.y, turn.0.z, turn.1))
+    }
+}
+
+impl From<DVec4> for Value {
+    fn from(v: DVec4) -> Value {
+        Value::Four(v)
+    }
+}
+
+impl From<DQuat> for Value {
+    fn from(q: DQuat) -> Value {
+        Value::Four(q.to_vec4())
+    }
+}
+
+impl From<DMat3> for Value {
+    fn from(m: DMat3) -> Value {
+        Value::Nine(m)
+    }
+}
+
+impl From<BVec4> for Value {
+    fn from(mask: BVec4) -> Value {
+        Value::Flags(mask)
+    }
+}
+
+impl fmt::Display for Value {
+    fn fmt<W: fmt::Write>(&self, f: &mut fmt::Formatter<W>) -> fmt::Result {
+        match *self {
+            Value::Flag(b) => write!(f, "{}", Flag(b)),
+            Value::Count(n) => write!(f, "{n}"),
+            Value::Axes(i, j, k) => write!(f, "{i} {j} {k}"),
+            Value::One(x) => write!(f, "{}", Bits(x)),
+            Value::Two(x, y) => write!(f, "{} {}", Bits(x), Bits(y)),
+            Value::Three(v) => write!(f, "{}", Column(v)),
+            Value::Four(v) => write!(f, "{} {}", Column(DVec3::new(v.x, v.y, v.z)), Bits(v.w)),
+            Value::Nine(m) => write!(
+                f,
+                "{} {} {}",
+                Column(m.x_axis),
+                Column(m.y_axis),
+                Column(m.z_axis)
+            ),
+            Value::Flags(b) => write!(f, "{} {} {} {}", Flag(b.x), Flag(b.y), Flag(b.z), Flag(b.w)),
         }
     }
 }
 
-fn put(text: &mut String, x: f64, heap: Global) -> Result<(), AllocError> {
-    if x.is_nan() {
-        return text.push_str("NAN ");
-    }
-    let bits = f64_to_bits_with_nan(x);
-    let digits = format!(in heap; "{bits:016X} ")?;
-    text.push_str(digits.as_str())
-}
+// A number, written by its bits.
+#[derive(Clone, Copy)]
+struct Bits(f64);
 
-fn put3(text: &mut String, v: DVec3, heap: Global) -> Result<(), AllocError> {
-    put(text, v.x, heap)?;
-    put(text, v.y, heap)?;
-    put(text, v.z, heap)
-}
-
-fn put_flag(text: &mut String, b: bool) -> Result<(), AllocError> {
-    text.push_str(if b { "1 " } else { "0 " })
-}
-
-fn put_flags(text: &mut String, b: BVec4) -> Result<(), AllocError> {
-    put_flag(text, b.x)?;
-    put_flag(text, b.y)?;
-    put_flag(text, b.z)?;
-    put_flag(text, b.w)
-}
-
-fn put_numbers(text: &mut String, answer: Answer, heap: Global) -> Result<(), AllocError> {
-    match answer {
-        Answer::One(x) => put(text, x, heap),
-        Answer::Two(x, y) => {
-            put(text, x, heap)?;
-            put(text, y, heap)
+impl fmt::Display for Bits {
+    fn fmt<W: fmt::Write>(&self, f: &mut fmt::Formatter<W>) -> fmt::Result {
+        if self.0.is_nan() {
+            f.write_str("NAN")
+        } else {
+            write!(f, "{:016X}", f64_to_bits_with_nan(self.0))
         }
-        Answer::Three(v) => put3(text, v, heap),
-        Answer::Four(v) => {
-            put3(text, DVec3::new(v.x, v.y, v.z), heap)?;
-            put(text, v.w, heap)
-        }
-        Answer::Nine(m) => {
-            put3(text, m.x_axis, heap)?;
-            put3(text, m.y_axis, heap)?;
-            put3(text, m.z_axis, heap)
-        }
-        Answer::Flag(b) => put_flag(text, b),
-        Answer::Flags(b) => put_flags(text, b),
-        _ => text.push_str("UNKNOWN"),
     }
 }
 
-pub(crate) fn shown(heap: Global, answer: Answer) -> Result<String, AllocError> {
-    match answer {
-        Answer::Refused(n) => format!(in heap; "REFUSED {n}"),
-        Answer::Count(n) => format!(in heap; "{n}"),
-        Answer::Axes(i, j, k) => format!(in heap; "{i} {j} {k}"),
-        other => {
-            let mut text = String::new(heap);
-            put_numbers(&mut text, other, heap)?;
-            Ok(text)
-        }
+#[derive(Clone, Copy)]
+struct Column(DVec3);
+
+impl fmt::Display for Column {
+    fn fmt<W: fmt::Write>(&self, f: &mut fmt::Formatter<W>) -> fmt::Result {
+        write!(
+            f,
+            "{} {} {}",
+            Bits(self.0.x),
+            Bits(self.0.y),
+            Bits(self.0.z)
+        )
+    }
+}
+
+#[derive(Clone, Copy)]
+struct Flag(bool);
+
+impl fmt::Display for Flag {
+    fn fmt<W: fmt::Write>(&self, f: &mut fmt::Formatter<W>) -> fmt::Result {
+        f.write_str(if self.0 { "1" } else { "0" })
     }
 }

@@ -23,36 +23,27 @@ impl<'a> Arguments<'a> {
     }
 
     pub(crate) fn f(&mut self) -> f64 {
-        f64_from_bits_with_nan(u64::from_str_radix(self.word(), 16).unwrap_or(
-            0x7FF8_0000_0000_0000,
-        ))
+        u64::from_str_radix(self.word(), 16).map_or(f64::NAN, |bits| f64_from_bits_with_nan(bits))
     }
 
     pub(crate) fn n(&mut self) -> usize {
-        self.word().parse::<usize>().unwrap_or(0)
+        self.word().parse().unwrap_or(0)
     }
 
     pub(crate) fn order(&mut self) -> EulerRot {
-        EulerRot::from_name(self.word()).unwrap_or(EulerRot::ZYX)
+        self.word().parse().unwrap_or(EulerRot::ZYX)
     }
 
     pub(crate) fn v2(&mut self) -> DVec2 {
-        let x = self.f();
-        let y = self.f();
-        DVec2::new(x, y)
+        DVec2::new(self.f(), self.f())
     }
 
     pub(crate) fn v3(&mut self) -> DVec3 {
-        let x = self.f();
-        let y = self.f();
-        let z = self.f();
-        DVec3::new(x, y, z)
+        DVec3::new(self.f(), self.f(), self.f())
     }
 
     pub(crate) fn v4(&mut self) -> DVec4 {
-        let v = self.v3();
-        let w = self.f();
-        DVec4::new(v.x, v.y, v.z, w)
+        DVec4::new(self.f(), self.f(), self.f(), self.f())
     }
 
     pub(crate) fn q(&mut self) -> DQuat {
@@ -60,9 +51,6 @@ impl<'a> Arguments<'a> {
     }
 
     pub(crate) fn m(&mut self) -> DMat3 {
-        let x = self.v3();
-        let y = self.v3();
-        let z = self.v3();
-        DMat3::from_cols(x, y, z)
+        DMat3::from_cols(self.v3(), self.v3(), self.v3())
     }
 }

@@ -8,35 +8,29 @@ mod numbers;
 mod quaternions;
 mod vectors_and_matrices;
 
-use answers::{Answer, shown};
+use answers::Answer;
 use arguments::Arguments;
+use fault::Fault;
 use std::io::{BufRead, BufReader, BufWriter, Write};
 
-fn answer(line: &str) -> Answer {
+// None where no call has the name.
+fn call(line: &str) -> Option<Answer> {
     let mut words = Arguments::new(line);
     let name = words.word();
-    match numbers::call(name, &mut words) {
-        Answer::Unknown => {}
-        found => return found,
-    }
-    match quaternions::call(name, &mut words) {
-        Answer::Unknown => {}
-        found => return found,
-    }
-    vectors_and_matrices::call(name, &mut words)
+    numbers::call(name, &mut words)
+        .or_else(|| quaternions::call(name, &mut words))
+        .or_else(|| vectors_and_matrices::call(name, &mut words))
 }
 
 fn main(rt: HostRuntime) -> anyhow::Result<()> {
-    let mut input = BufReader::new(rt.alloc(), rt.stdin())?;
+    let input = BufReader::new(rt.alloc(), rt.stdin())?;
     let mut output = BufWriter::new(rt.alloc(), rt.stdout())?;
-    for _ in 0..u64::MAX {
-        let mut line = String::new(rt.alloc());
-        if input.read_line(&mut line)? == 0 {
-            break;
+    for line in input.lines(rt.alloc()) {
+        match call(line?.as_str()) {
+            Some(Ok(value)) => writeln!(output, "{value}")?,
+            Some(Err(fault)) => writeln!(output, "REFUSED {}", fault.number())?,
+            None => writeln!(output, "UNKNOWN")?,
         }
-        let text = shown(rt.alloc(), answer(line.as_str()))?;
-        output.write_all(text.as_str().trim_end().as_bytes())?;
-        output.write_all(b"\n")?;
     }
     output.flush()?;
     Ok(())

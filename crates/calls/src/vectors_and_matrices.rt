@@ -1,102 +1,89 @@
 // The calls of vectors, masks and matrices.
-use crate::answers::Answer;
+use crate::answers::{Answer, answer, plain};
 use crate::arguments::Arguments;
 use matrix::DMat3;
 use quaternion::FromQuat;
 
-pub(crate) fn call(name: &str, words: &mut Arguments<'_>) -> Answer {
-    match matrix(name, words) {
-        Answer::Unknown => {}
-        found => return found,
-    }
-    if name.starts_with("v3.") {
-        three(name, words)
-    } else {
-        four(name, words)
-    }
+pub(crate) fn call(name: &str, words: &mut Arguments<'_>) -> Option<Answer> {
+    matrix(name, words)
+        .or_else(|| two(name, words))
+        .or_else(|| three(name, words))
+        .or_else(|| four(name, words))
+        .or_else(|| mask(name, words))
 }
 
-fn matrix(name: &str, words: &mut Arguments<'_>) -> Answer {
-    match name {
-        "m.from_cols" => Answer::Nine(words.m()),
-        "m.from_quat" => Answer::matrix(<DMat3 as FromQuat>::from_quat(words.q())),
-        "m.from_euler" => {
-            let order = words.order();
-            let t = words.v3();
-            Answer::matrix(DMat3::from_euler(order, t.x, t.y, t.z))
-        }
-        "m.to_euler" => {
-            let m = words.m();
-            Answer::angles(m.to_euler(words.order()))
-        }
-        "m.col" => {
-            let m = words.m();
-            Answer::three(m.col(words.n()))
-        }
-        "m.is_finite" => Answer::Flag(words.m().is_finite()),
-        "v2.dot" => {
-            let u = words.v2();
-            Answer::One(u.dot(words.v2()))
-        }
-        "v2.length_squared" => Answer::One(words.v2().length_squared()),
-        "v2.is_normalized" => Answer::Flag(words.v2().is_normalized()),
-        "v2.is_finite" => Answer::Flag(words.v2().is_finite()),
-        _ => Answer::Unknown,
-    }
+fn matrix(name: &str, words: &mut Arguments<'_>) -> Option<Answer> {
+    Some(match name {
+        "m.from_cols" => plain(words.m()),
+        "m.from_quat" => answer(DMat3::from_quat(words.q())),
+        "m.from_euler" => answer(DMat3::from_euler(words.order(), words.f(), words.f(), words.f())),
+        "m.to_euler" => answer(words.m().to_euler(words.order())),
+        "m.col" => answer(words.m().col(words.n())),
+        "m.is_finite" => plain(words.m().is_finite()),
+        _ => return None,
+    })
 }
 
-fn three(name: &str, words: &mut Arguments<'_>) -> Answer {
-    let v = words.v3();
-    match name {
-        "v3.dot" => Answer::One(v.dot(words.v3())),
-        "v3.cross" => Answer::Three(v.cross(words.v3())),
-        "v3.length" => Answer::One(v.length()),
-        "v3.length_squared" => Answer::One(v.length_squared()),
-        "v3.length_recip" => Answer::One(v.length_recip()),
-        "v3.is_normalized" => Answer::Flag(v.is_normalized()),
-        "v3.is_finite" => Answer::Flag(v.is_finite()),
-        "v3.is_nan" => Answer::Flag(v.is_nan()),
-        "v3.neg" => Answer::Three(v.neg()),
-        "v3.add" => Answer::Three(v.add(words.v3())),
-        "v3.sub" => Answer::Three(v.sub(words.v3())),
-        "v3.mul_f" => Answer::Three(v.mul_scalar(words.f())),
-        "v3.div_f" => Answer::Three(v.div_scalar(words.f())),
-        "v3.any_orthonormal_vector" => Answer::three(v.any_orthonormal_vector()),
-        "v3.zyx" => Answer::Three(v.zyx()),
-        "v3.index" => Answer::one(v.at(words.n())),
-        _ => Answer::Unknown,
-    }
+fn two(name: &str, words: &mut Arguments<'_>) -> Option<Answer> {
+    Some(match name {
+        "v2.dot" => plain(words.v2().dot(words.v2())),
+        "v2.length_squared" => plain(words.v2().length_squared()),
+        "v2.is_normalized" => plain(words.v2().is_normalized()),
+        "v2.is_finite" => plain(words.v2().is_finite()),
+        _ => return None,
+    })
 }
 
-fn four(name: &str, words: &mut Arguments<'_>) -> Answer {
-    let v = words.v4();
-    match name {
-        "v4.dot" => Answer::One(v.dot(words.v4())),
-        "v4.length" => Answer::One(v.length()),
-        "v4.length_squared" => Answer::One(v.length_squared()),
-        "v4.length_recip" => Answer::One(v.length_recip()),
-        "v4.normalize" => Answer::four(v.normalize()),
-        "v4.is_normalized" => Answer::Flag(v.is_normalized()),
-        "v4.is_finite" => Answer::Flag(v.is_finite()),
-        "v4.is_nan" => Answer::Flag(v.is_nan()),
-        "v4.neg" => Answer::Four(v.neg()),
-        "v4.abs" => Answer::Four(v.abs()),
-        "v4.add" => Answer::Four(v.add(words.v4())),
-        "v4.sub" => Answer::Four(v.sub(words.v4())),
-        "v4.mul_f" => Answer::Four(v.mul_scalar(words.f())),
-        "v4.div_f" => Answer::Four(v.div_scalar(words.f())),
-        "v4.cmple" => Answer::Flags(v.cmple(words.v4())),
-        "v4.abs_diff_eq" => {
-            let u = words.v4();
-            Answer::Flag(v.abs_diff_eq(u, words.f()))
-        }
-        "b4.all" => Answer::Flag(v.cmple(words.v4()).all()),
-        "b4.any" => Answer::Flag(v.cmple(words.v4()).any()),
-        "b4.bitmask" => Answer::Count(v.cmple(words.v4()).bitmask()),
-        "b4.test" => {
-            let b = v.cmple(words.v4());
-            Answer::flag(b.test(words.n()))
-        }
-        _ => Answer::Unknown,
-    }
+fn three(name: &str, words: &mut Arguments<'_>) -> Option<Answer> {
+    Some(match name {
+        "v3.dot" => plain(words.v3().dot(words.v3())),
+        "v3.cross" => plain(words.v3().cross(words.v3())),
+        "v3.length" => plain(words.v3().length()),
+        "v3.length_squared" => plain(words.v3().length_squared()),
+        "v3.length_recip" => plain(words.v3().length_recip()),
+        "v3.is_normalized" => plain(words.v3().is_normalized()),
+        "v3.is_finite" => plain(words.v3().is_finite()),
+        "v3.is_nan" => plain(words.v3().is_nan()),
+        "v3.neg" => plain(words.v3().neg()),
+        "v3.add" => plain(words.v3().add(words.v3())),
+        "v3.sub" => plain(words.v3().sub(words.v3())),
+        "v3.mul_f" => plain(words.v3().mul_scalar(words.f())),
+        "v3.div_f" => plain(words.v3().div_scalar(words.f())),
+        "v3.any_orthonormal_vector" => answer(words.v3().any_orthonormal_vector()),
+        "v3.zyx" => plain(words.v3().zyx()),
+        "v3.index" => answer(words.v3().at(words.n())),
+        _ => return None,
+    })
+}
+
+fn four(name: &str, words: &mut Arguments<'_>) -> Option<Answer> {
+    Some(match name {
+        "v4.dot" => plain(words.v4().dot(words.v4())),
+        "v4.length" => plain(words.v4().length()),
+        "v4.length_squared" => plain(words.v4().length_squared()),
+        "v4.length_recip" => plain(words.v4().length_recip()),
+        "v4.normalize" => answer(words.v4().normalize()),
+        "v4.is_normalized" => plain(words.v4().is_normalized()),
+        "v4.is_finite" => plain(words.v4().is_finite()),
+        "v4.is_nan" => plain(words.v4().is_nan()),
+        "v4.neg" => plain(words.v4().neg()),
+        "v4.abs" => plain(words.v4().abs()),
+        "v4.add" => plain(words.v4().add(words.v4())),
+        "v4.sub" => plain(words.v4().sub(words.v4())),
+        "v4.mul_f" => plain(words.v4().mul_scalar(words.f())),
+        "v4.div_f" => plain(words.v4().div_scalar(words.f())),
+        "v4.cmple" => plain(words.v4().cmple(words.v4())),
+        "v4.abs_diff_eq" => plain(words.v4().abs_diff_eq(words.v4(), words.f())),
+        _ => return None,
+    })
+}
+
+fn mask(name: &str, words: &mut Arguments<'_>) -> Option<Answer> {
+    Some(match name {
+        "b4.all" => plain(words.v4().cmple(words.v4()).all()),
+        "b4.any" => plain(words.v4().cmple(words.v4()).any()),
+        "b4.bitmask" => plain(words.v4().cmple(words.v4()).bitmask()),
+        "b4.test" => answer(words.v4().cmple(words.v4()).test(words.n())),
+        _ => return None,
+    })
 }

@@ -3,54 +3,103 @@
 #![tactic(auto)]
 
 use numeric::{acos_approx, atan2, cos, sin, sqrt};
+use std::fmt;
 use std::num::f64_from_bits_with_nan;
+use std::str::FromStr;
 
 // 2^-45: half of what is promised, since the expected value is itself rounded
 const BOUND: f64 = 2.842170943040401e-14;
 
 #[derive(Clone, Copy)]
-struct Tally {
-    lines: u64,
-    outside: u64,
-    largest: f64,
-}
-
-impl Tally {
-    const NONE: Tally = Tally {
-        lines: 0,
-        outside: 0,
-        largest: 0.0,
-    };
-
-    fn note(&mut self, error: f64, bound: f64) -> bool {
-        let inside = error <= bound;
-        self.lines = self.lines.saturating_add(1);
-        if !inside {
-            self.outside = self.outside.saturating_add(1);
-        }
-        if error > self.largest {
-            self.largest = error;
-        }
-        inside
-    }
+enum Function {
+    Sin,
+    Cos,
+    Atan2,
+    Sqrt,
+    Acos,
 }
 
 #[derive(Clone, Copy)]
-struct Tallies {
-    sin: Tally,
-    cos: Tally,
-    atan2: Tally,
-    sqrt: Tally,
-    acos: Tally,
+struct UnknownFunction;
+
+impl Function {
+    const ALL: [Function; 5] = [
+        Function::Sin,
+        Function::Cos,
+        Function::Atan2,
+        Function::Sqrt,
+        Function::Acos,
+    ];
+}
+
+impl FromStr for Function {
+    type Err = UnknownFunction;
+
+    fn from_str(name: &str) -> Result<Function, UnknownFunction> {
+        match name {
+            "sin" => Ok(Function::Sin),
+            "cos" => Ok(Function::Cos),
+            "atan2" => Ok(Function::Atan2),
+            "sqrt" => Ok(Function::Sqrt),
+            "acos" => Ok(Function::Acos),
+            _ => Err(UnknownFunction),
+        }
+    }
+}
+
+impl fmt::Display for Function {
+    fn fmt<W: fmt::Write>(&self, f: &mut fmt::Formatter<W>) -> fmt::Result {
+        f.write_str(match self {
+            Function::Sin => "sin",
+            Function::Cos => "cos",
+            Function::Atan2 => "atan2",
+            Function::Sqrt => "sqrt",
+            Function::Acos => "acos_approx",
+        })
+    }
+}
+
+// A line replayed: how far the answer is from the value expected, and how far it may be.
+#[derive(Clone, Copy)]
+struct Replay {
+    function: Function,
+    error: f64,
+    bound: f64,
+}
+
+impl Replay {
+    fn is_within(&self) -> bool {
+        self.error <= self.bound
+    }
+}
+
+impl FromStr for Replay {
+    type Err = UnknownFunction;
+
+    fn from_str(line: &str) -> Result<Replay, UnknownFunction> {
+        let mut words = line.split_whitespace();
+        let function = words.next().unwrap_or("").parse::<Function>()?;
+        let a = number(words.next());
+        let b = number(words.next());
+        let c = number(words.next());
+        let (answer, expected, bound) = match function {
+            Function::Sin => (sin(a), b, sharp(a)),
+            Function::Cos => (cos(a), b, BOUND),
+            Function::Atan2 => (atan2(a, b), c, sharp_angle(a, b, c)),
+            Function::Sqrt => (Ok(sqrt(a)), b, 0.0),
+            Function::Acos => (acos_approx(a), b, BOUND),
+        };
+        Ok(Replay {
+            function,
+            error: distance(answer.unwrap_or(f64::NAN), expected),
+            bound,
+        })
+    }
 }
 
 fn number(word: Option<&str>) -> f64 {
-    match word {
-        Some(text) => f64_from_bits_with_nan(u64::from_str_radix(text, 16).unwrap_or(
-            0x7FF8_0000_0000_0000,
-        )),
-        None => f64::NAN,
-    }
+    word.and_then(|text| u64::from_str_radix(text, 16).ok())
+        .map_or(f64::NAN, |bits| f64_from_bits_with_nan(bits))
 }
 
 fn distance(x: f64, y: f64) -> f64 {
@@ -75,65 +124,55 @@ fn sharp_angle(y: f64, x: f64, t: f64) -> f64 {
     }
 }
 
-// Whether the answer to one line is within its bound; None where the line names no function.
-fn replay(line: &str, t: &mut Tallies) -> Option<bool> {
-    let mut words = line.split_whitespace();
-    let name = words.next()?;
-    let a = number(words.next());
-    let b = number(words.next());
-    let c = number(words.next());
-    match name {
-        "sin" => Some(
-            t.sin
-                .note(distance(sin(a).unwrap_or(f64::NAN), b), sharp(a)),
-        ),
-        "cos" => Some(t.cos.note(distance(cos(a).unwrap_or(f64::NAN), b), BOUND)),
-        "atan2" => Some(
-            t.atan2.note(
-                distance(atan2(a, b).unwrap_or(f64::NAN), c),
-                sharp_angle(a, b, c),
-            ),
-        ),
-        "sqrt" => Some(t.sqrt.note(distance(sqrt(a), b), 0.0)),
-        "acos" => Some(
-            t.acos
-                .note(distance(acos_approx(a).unwrap_or(f64::NAN), b), BOUND),
-        ),
-        _ => None,
+// Of the lines of one function.
+#[derive(Clone, Copy, Default)]
+struct Tally {
+    lines: u64,
+    outside: u64,
+    largest: f64,
+}
+
+impl Tally {
+    fn note(&mut self, replay: Replay) {
+        self.lines = self.lines.saturating_add(1);
+        if !replay.is_within() {
+            self.outside = self.outside.saturating_add(1);
+        }
+        if replay.error > self.largest {
+            self.largest = replay.error;
+        }
     }
 }
 
-fn show(rt: &HostRuntime, name: &str, t: Tally) -> anyhow::Result<()> {
-    let Tally {
-        lines,
-        outside,
-        largest,
-    } = t;
-    println!(rt; "{name}: {lines} lines, {outside} outside, largest error {largest:e}")?;
-    Ok(())
+impl fmt::Display for Tally {
+    fn fmt<W: fmt::Write>(&self, f: &mut fmt::Formatter<W>) -> fmt::Result {
+        let Tally {
+            lines,
+            outside,
+            largest,
+        } = *self;
+        write!(
+            f,
+            "{lines} lines, {outside} outside, largest error {largest:e}"
+        )
+    }
 }
 
 fn main(rt: HostRuntime) -> anyhow::Result<()> {
-    let none = Tally::NONE;
-    let mut t = Tallies {
-        sin: none,
-        cos: none,
-        atan2: none,
-        sqrt: none,
-        acos: none,
-    };
+    let mut tallies = [Tally::default(); Function::ALL.len()];
     for line in rt.lines(rt.alloc()) {
         let line = line?;
-        let text = line.as_str();
-        match replay(text, &mut t) {
-            Some(true) => {}
-            Some(false) => println!(rt; "outside: {text}")?,
-            None => println!(rt; "no function: {text}")?,
+        let Ok(replay) = line.parse::<Replay>() else {
+            println!(rt; "no function: {line}")?;
+            continue;
+        };
+        tallies[replay.function as usize].note(replay);
+        if !replay.is_within() {
+            println!(rt; "outside: {line}")?;
         }
     }
-    show(&rt, "sin", t.sin)?;
-    show(&rt, "cos", t.cos)?;
-    show(&rt, "atan2", t.atan2)?;
-    show(&rt, "sqrt", t.sqrt)?;
-    show(&rt, "acos_approx", t.acos)
+    for function in Function::ALL {
+        println!(rt; "{function}: {}", tallies[function as usize])?;
+    }
+    Ok(())
 }

@@ -3,10 +3,12 @@
 #![tactic(auto)]
 
 use euler::{EulerRot, Order};
-use fault::{NumberFault, RotationFault};
+use fault::{Fault, NumberFault, RotationFault};
 use quaternion::DQuat;
+use std::fmt;
 use std::io::{BufRead, BufReader};
 use std::num::f64_to_bits_with_nan;
+use std::str::FromStr;
 use vectors::DVec3;
 
 #[derive(Clone, Copy)]
@@ -18,82 +20,67 @@ struct Lamp {
 
 // A word that spells no number, and one that is missing, stand for a number that is not finite.
 fn angle(word: Option<&str>) -> f64 {
-    match word {
-        Some(text) => text.parse::<f64>().unwrap_or(f64::NAN),
-        None => f64::NAN,
+    word.and_then(|text| text.parse().ok()).unwrap_or(f64::NAN)
+}
+
+impl FromStr for Lamp {
+    type Err = RotationFault;
+
+    fn from_str(line: &str) -> Result<Lamp, RotationFault> {
+        let mut words = line.split_whitespace();
+        let order = words.next().unwrap_or("").parse::<EulerRot>()?;
+        let a = angle(words.next());
+        let b = angle(words.next());
+        let c = angle(words.next());
+        let rotation = DQuat::from_euler(order, a, b, c)?;
+        if words.next().is_some() {
+            Err(NumberFault::NotFinite(4))?;
+        }
+        Ok(Lamp {
+            axes: Order::from(order).angle_order(),
+            rotation,
+            beam: rotation.mul_vec3(DVec3::NEG_Z)?,
+        })
     }
 }
 
-fn no_more(word: Option<&str>) -> Result<(), NumberFault> {
-    match word {
-        Some(_) => Err(NumberFault::NotFinite(4)),
-        None => Ok(()),
+impl fmt::Display for Lamp {
+    fn fmt<W: fmt::Write>(&self, f: &mut fmt::Formatter<W>) -> fmt::Result {
+        let (i, j, k) = self.axes;
+        writeln!(f, "axes {i} {j} {k}")?;
+        let DQuat { x, y, z, w } = self.rotation;
+        writeln!(f, "rotation {x} {y} {z} {w}")?;
+        writeln!(
+            f,
+            "bits {:016X} {:016X} {:016X} {:016X}",
+            f64_to_bits_with_nan(x),
+            f64_to_bits_with_nan(y),
+            f64_to_bits_with_nan(z),
+            f64_to_bits_with_nan(w)
+        )?;
+        let DVec3 { x, y, z } = self.beam;
+        write!(f, "beam {x} {y} {z}")
     }
-}
-
-fn read_lamp(line: &str) -> Result<Lamp, RotationFault> {
-    let mut words = line.split_whitespace();
-    let order = EulerRot::from_name(words.next().unwrap_or(""))?;
-    let a = angle(words.next());
-    let b = angle(words.next());
-    let c = angle(words.next());
-    let rotation = DQuat::from_euler(order, a, b, c)?;
-    no_more(words.next())?;
-    let beam = rotation.mul_vec3(DVec3::NEG_Z)?;
-    let axes = Order::from_euler(order).angle_order();
-    Ok(Lamp {
-        axes,
-        rotation,
-        beam,
-    })
-}
-
-fn show(rt: &HostRuntime, lamp: &Lamp) -> anyhow::Result<()> {
-    let (i, j, k) = lamp.axes;
-    println!(rt; "axes {i} {j} {k}")?;
-    let DQuat { x, y, z, w } = lamp.rotation;
-    println!(rt; "rotation {x} {y} {z} {w}")?;
-    let bits = (
-        f64_to_bits_with_nan(x),
-        f64_to_bits_with_nan(y),
-        f64_to_bits_with_nan(z),
-        f64_to_bits_with_nan(w),
-    );
-    println!(rt;
-        "bits {:016X} {:016X} {:016X} {:016X}",
-        bits.0, bits.1, bits.2, bits.3
-    )?;
-    let DVec3 { x, y, z } = lamp.beam;
-    println!(rt; "beam {x} {y} {z}")?;
-    Ok(())
 }
 
 fn answer(rt: &HostRuntime, line: &str) -> anyhow::Result<()> {
-    let line = line.trim();
-    if line.is_empty() {
-        return Ok(());
-    }
     println!(rt; "read {line}")?;
-    match read_lamp(line) {
-        Ok(lamp) => show(rt, &lamp),
-        Err(fault) => {
-            let number = fault.number();
-            println!(rt; "refused {number}")?;
-            Ok(())
-        }
+    match line.parse::<Lamp>() {
+        Ok(lamp) => println!(rt; "{lamp}")?,
+        Err(fault) => println!(rt; "refused {}", fault.number())?,
     }
+    Ok(())
 }
 
 fn main(rt: HostRuntime) -> anyhow::Result<()> {
-    let mut input = BufReader::new(rt.alloc(), rt.stdin())?;
-    for _ in 0..u64::MAX {
-        let mut bytes = Vec::new(rt.alloc());
-        if input.read_until(b'\n', &mut bytes)? == 0 {
-            break;
-        }
-        match std::str::from_utf8(bytes.as_slice()) {
-            Ok(line) => answer(&rt, line)?,
-            Err(_) => answer(&rt, "(no text)")?,
+    let input = BufReader::new(rt.alloc(), rt.stdin())?;
+    for bytes in input.split(rt.alloc(), b'\n') {
+        let bytes = bytes?;
+        let line = std::str::from_utf8(bytes.as_slice())
+            .unwrap_or("(no text)")
+            .trim();
+        if !line.is_empty() {
+            answer(&rt, line)?;
         }
     }
     Ok(())
