@@ -50,8 +50,8 @@ impl From<u32> for Value {
 }
 
 impl From<(usize, usize, usize)> for Value {
-    fn from(axes: (usize, usize, usize)) -> Value {
-        Value::Axes(axes.0, axes.1, axes.2)
+    fn from((i, j, k): (usize, usize, usize)) -> Value {
+        Value::Axes(i, j, k)
     }
 }
 
@@ -62,14 +62,14 @@ impl From<f64> for Value {
 }
 
 impl From<(f64, f64)> for Value {
-    fn from(pair: (f64, f64)) -> Value {
-        Value::Two(pair.0, pair.1)
+    fn from((x, y): (f64, f64)) -> Value {
+        Value::Two(x, y)
     }
 }
 
 impl From<(f64, f64, f64)> for Value {
-    fn from(angles: (f64, f64, f64)) -> Value {
-        Value::Three(DVec3::new(angles.0, angles.1, angles.2))
+    fn from((a, b, c): (f64, f64, f64)) -> Value {
+        Value::Three(DVec3::new(a, b, c))
     }
 }
 
@@ -80,8 +80,8 @@ impl From<DVec3> for Value {
 }
 
 impl From<(DVec3, f64)> for Value {
-    fn from(turn: (DVec3, f64)) -> Value {
-        Value::Four(DVec4::new(turn.0.x, turn.0.y, turn.0.z, turn.1))
+    fn from((axis, angle): (DVec3, f64)) -> Value {
+        Value::Four(DVec4::new(axis.x, axis.y, axis.z, angle))
     }
 }
 
@@ -112,7 +112,7 @@ impl From<BVec4> for Value {
 impl fmt::Display for Value {
     fn fmt<W: fmt::Write>(&self, f: &mut fmt::Formatter<W>) -> fmt::Result {
         match *self {
-            Value::Flag(b) => write!(f, "{}", Flag(b)),
+            Value::Flag(b) => write!(f, "{}", u8::from(b)),
             Value::Count(n) => write!(f, "{n}"),
             Value::Axes(i, j, k) => write!(f, "{i} {j} {k}"),
             Value::One(x) => write!(f, "{}", Bits(x)),
@@ -126,7 +126,14 @@ impl fmt::Display for Value {
                 Column(m.y_axis),
                 Column(m.z_axis)
             ),
-            Value::Flags(b) => write!(f, "{} {} {} {}", Flag(b.x), Flag(b.y), Flag(b.z), Flag(b.w)),
+            Value::Flags(b) => write!(
+                f,
+                "{} {} {} {}",
+                u8::from(b.x),
+                u8::from(b.y),
+                u8::from(b.z),
+                u8::from(b.w)
+            ),
         }
     }
 }
@@ -157,14 +164,5 @@ impl fmt::Display for Column {
             Bits(self.0.y),
             Bits(self.0.z)
         )
-    }
-}
-
-#[derive(Clone, Copy)]
-struct Flag(bool);
-
-impl fmt::Display for Flag {
-    fn fmt<W: fmt::Write>(&self, f: &mut fmt::Formatter<W>) -> fmt::Result {
-        f.write_str(if self.0 { "1" } else { "0" })
     }
 }

@@ -34,7 +34,7 @@ impl FromStr for Lamp {
         let c = angle(words.next());
         let rotation = DQuat::from_euler(order, a, b, c)?;
         if words.next().is_some() {
-            Err(NumberFault::NotFinite(4))?;
+            return Err(RotationFault::from(NumberFault::NotFinite(4)));
         }
         Ok(Lamp {
             axes: Order::from(order).angle_order(),

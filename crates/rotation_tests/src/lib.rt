@@ -4,11 +4,15 @@
 #[cfg(test)]
 mod tests {
     use euler::{EulerRot, Order};
-    use fault::{Fault, RotationFault};
+    use fault::{Fault, NumberFault, RotationFault};
     use numeric::{acos_approx, atan2, cos, sin, sqrt};
     use quaternion::DQuat;
     use std::num::f64_to_bits_with_nan;
     use vectors::DVec3;
+
+    fn bits(r: Result<f64, NumberFault>) -> Result<u64, NumberFault> {
+        r.map(|x| f64_to_bits_with_nan(x))
+    }
 
     #[test]
     fn angles_end_at_a_thousand(rt: HostRuntime) {
@@ -33,32 +37,24 @@ mod tests {
     fn roots_and_angles_at_known_places(rt: HostRuntime) {
         assert_eq!(rt; f64_to_bits_with_nan(sqrt(2.0)), 0x3FF6_A09E_667F_3BCD);
         assert_eq!(rt;
-            atan2(0.0, -1.0).map(f64_to_bits_with_nan),
+            bits(atan2(0.0, -1.0)),
             Ok(0x4009_21FB_5444_2D18),
             "a half turn"
         );
         assert_eq!(rt;
-            atan2(-0.0, -1.0).map(f64_to_bits_with_nan),
+            bits(atan2(-0.0, -1.0)),
             Ok(0x4009_21FB_5444_2D18),
             "positive for either zero"
         );
+        assert_eq!(rt; bits(atan2(-0.0, -0.0)), Ok(0), "two zeros");
         assert_eq!(rt;
-            atan2(-0.0, -0.0).map(f64_to_bits_with_nan),
-            Ok(0),
-            "two zeros"
-        );
-        assert_eq!(rt;
-            atan2(1.0, 1.0).map(f64_to_bits_with_nan),
+            bits(atan2(1.0, 1.0)),
             Ok(0x3FE9_21FB_5444_2D18),
             "an eighth turn"
         );
+        assert_eq!(rt; bits(acos_approx(2.0)), Ok(0), "brought into -1..1");
         assert_eq!(rt;
-            acos_approx(2.0).map(f64_to_bits_with_nan),
-            Ok(0),
-            "brought into -1..1"
-        );
-        assert_eq!(rt;
-            sin(-0.0).map(f64_to_bits_with_nan),
+            bits(sin(-0.0)),
             Ok(0x8000_0000_0000_0000),
             "the sine keeps the sign of zero"
         );
