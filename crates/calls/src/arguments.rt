@@ -1,4 +1,5 @@
-// The words of a line, one argument at a time. What is missing or no number reads as NaN, 0 or ZYX.
+// A call: its name, and its words one argument at a time. What is missing or no number reads as NaN, 0 or ZYX.
+// What a name stands for is a match and no table, since each call takes and gives types of its own.
 use euler::EulerRot;
 use matrix::DMat3;
 use quaternion::DQuat;
@@ -7,18 +8,21 @@ use std::str::SplitWhitespace;
 use vectors::{DVec2, DVec3, DVec4};
 
 #[derive(Drop)]
-pub(crate) struct Arguments<'a> {
+pub(crate) struct Call<'a> {
+    pub(crate) name: &'a str,
     words: SplitWhitespace<'a>,
 }
 
-impl<'a> Arguments<'a> {
-    pub(crate) fn new(line: &'a str) -> Arguments<'a> {
-        Arguments {
-            words: line.split_whitespace(),
+impl<'a> Call<'a> {
+    pub(crate) fn new(line: &'a str) -> Call<'a> {
+        let mut words = line.split_whitespace();
+        Call {
+            name: words.next().unwrap_or(""),
+            words,
         }
     }
 
-    pub(crate) fn word(&mut self) -> &'a str {
+    fn word(&mut self) -> &'a str {
         self.words.next().unwrap_or("")
     }
 

@@ -9,24 +9,23 @@ mod quaternions;
 mod vectors_and_matrices;
 
 use answers::Answer;
-use arguments::Arguments;
+use arguments::Call;
 use fault::Fault;
 use std::io::{BufRead, BufReader, BufWriter, Write};
 
-// None where no call has the name.
-fn call(line: &str) -> Option<Answer> {
-    let mut words = Arguments::new(line);
-    let name = words.word();
-    numbers::call(name, &mut words)
-        .or_else(|| quaternions::call(name, &mut words))
-        .or_else(|| vectors_and_matrices::call(name, &mut words))
+// None where the name is no call's. Each step too answers None to the name of another.
+fn answered(line: &str) -> Option<Answer> {
+    let mut call = Call::new(line);
+    call.on_numbers()
+        .or_else(|| call.on_quaternions())
+        .or_else(|| call.on_vectors_and_matrices())
 }
 
 fn main(rt: HostRuntime) -> anyhow::Result<()> {
     let input = BufReader::new(rt.alloc(), rt.stdin())?;
     let mut output = BufWriter::new(rt.alloc(), rt.stdout())?;
     for line in input.lines(rt.alloc()) {
-        match call(line?.as_str()) {
+        match answered(line?.as_str()) {
             Some(Ok(value)) => writeln!(output, "{value}")?,
             Some(Err(fault)) => writeln!(output, "REFUSED {}", fault.number())?,
             None => writeln!(output, "UNKNOWN")?,
