@@ -3,6 +3,7 @@
 #![tactic(auto)]
 
 use numeric::{acos_approx, atan2, cos, sin, sqrt};
+use std::collections::BTreeMap;
 use std::fmt;
 use std::num::f64_from_bits_with_nan;
 use std::str::FromStr;
@@ -10,7 +11,7 @@ use std::str::FromStr;
 // 2^-45: half of what is promised, since the expected value is itself rounded
 const BOUND: f64 = 2.842170943040401e-14;
 
-#[derive(Clone, Copy)]
+#[derive(Clone, Copy, PartialEq, Eq, PartialOrd, Ord)]
 enum Function {
     Sin,
     Cos,
@@ -159,20 +160,23 @@ impl fmt::Display for Tally {
 }
 
 fn main(rt: HostRuntime) -> anyhow::Result<()> {
-    let mut tallies = [Tally::default(); Function::ALL.len()];
+    let mut tallies = BTreeMap::new(rt.alloc());
+    for function in Function::ALL {
+        tallies.insert(function, Tally::default())?;
+    }
     for line in rt.lines(rt.alloc()) {
         let line = line?;
         let Ok(replay) = line.parse::<Replay>() else {
             println!(rt; "no function: {line}")?;
             continue;
         };
-        tallies[replay.function as usize].note(replay);
+        tallies.entry(replay.function)?.or_default().note(replay);
         if !replay.is_within() {
             println!(rt; "outside: {line}")?;
         }
     }
-    for function in Function::ALL {
-        println!(rt; "{function}: {}", tallies[function as usize])?;
+    for (function, tally) in &tallies {
+        println!(rt; "{function}: {tally}")?;
     }
     Ok(())
 }
