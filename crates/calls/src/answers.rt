@@ -93,7 +93,7 @@ impl From<DVec4> for Value {
 
 impl From<DQuat> for Value {
     fn from(q: DQuat) -> Value {
-        Value::Four(q.to_vec4())
+        Value::Four(DVec4::from(q))
     }
 }
 

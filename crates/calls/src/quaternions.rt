@@ -2,6 +2,7 @@
 use crate::answers::{Answer, answer, plain};
 use crate::arguments::Call;
 use quaternion::DQuat;
+use vectors::Vector;
 
 impl Call<'_> {
     pub(crate) fn on_quaternions(&mut self) -> Option<Answer> {
@@ -56,9 +57,9 @@ impl Call<'_> {
             "q.is_normalized" => plain(self.q().is_normalized()),
             "q.is_near_identity" => plain(self.q().is_near_identity()),
             "q.mul_vec3" => answer(self.q().mul_vec3(self.v3())),
-            "q.mul_f" => plain(self.q().mul_scalar(self.f())),
-            "q.div_f" => plain(self.q().div_scalar(self.f())),
-            "q.neg" => plain(self.q().neg()),
+            "q.mul_f" => plain(self.q() * self.f()),
+            "q.div_f" => plain(self.q() / self.f()),
+            "q.neg" => plain(-self.q()),
             _ => return None,
         })
     }
@@ -74,8 +75,8 @@ impl Call<'_> {
             "q.slerp" => answer(self.q().slerp(self.q(), self.f())),
             "q.slerp_long" => answer(self.q().slerp_long(self.q(), self.f())),
             "q.mul_quat" => plain(self.q().mul_quat(self.q())),
-            "q.add" => plain(self.q().add(self.q())),
-            "q.sub" => plain(self.q().sub(self.q())),
+            "q.add" => plain(self.q() + self.q()),
+            "q.sub" => plain(self.q() - self.q()),
             "q.eq" => plain(self.q() == self.q()),
             "q.sum" => plain(DQuat::sum(&[self.q(), self.q()])),
             "q.product" => plain(DQuat::product(&[self.q(), self.q()])),

@@ -3,6 +3,7 @@ use crate::answers::{Answer, answer, plain};
 use crate::arguments::Call;
 use matrix::DMat3;
 use quaternion::FromQuat;
+use vectors::Vector;
 
 impl Call<'_> {
     pub(crate) fn on_vectors_and_matrices(&mut self) -> Option<Answer> {
@@ -45,11 +46,11 @@ impl Call<'_> {
             "v3.is_normalized" => plain(self.v3().is_normalized()),
             "v3.is_finite" => plain(self.v3().is_finite()),
             "v3.is_nan" => plain(self.v3().is_nan()),
-            "v3.neg" => plain(self.v3().neg()),
-            "v3.add" => plain(self.v3().add(self.v3())),
-            "v3.sub" => plain(self.v3().sub(self.v3())),
-            "v3.mul_f" => plain(self.v3().mul_scalar(self.f())),
-            "v3.div_f" => plain(self.v3().div_scalar(self.f())),
+            "v3.neg" => plain(-self.v3()),
+            "v3.add" => plain(self.v3() + self.v3()),
+            "v3.sub" => plain(self.v3() - self.v3()),
+            "v3.mul_f" => plain(self.v3() * self.f()),
+            "v3.div_f" => plain(self.v3() / self.f()),
             "v3.any_orthonormal_vector" => answer(self.v3().any_orthonormal_vector()),
             "v3.zyx" => plain(self.v3().zyx()),
             "v3.index" => answer(self.v3().at(self.n())),
@@ -67,12 +68,12 @@ impl Call<'_> {
             "v4.is_normalized" => plain(self.v4().is_normalized()),
             "v4.is_finite" => plain(self.v4().is_finite()),
             "v4.is_nan" => plain(self.v4().is_nan()),
-            "v4.neg" => plain(self.v4().neg()),
+            "v4.neg" => plain(-self.v4()),
             "v4.abs" => plain(self.v4().abs()),
-            "v4.add" => plain(self.v4().add(self.v4())),
-            "v4.sub" => plain(self.v4().sub(self.v4())),
-            "v4.mul_f" => plain(self.v4().mul_scalar(self.f())),
-            "v4.div_f" => plain(self.v4().div_scalar(self.f())),
+            "v4.add" => plain(self.v4() + self.v4()),
+            "v4.sub" => plain(self.v4() - self.v4()),
+            "v4.mul_f" => plain(self.v4() * self.f()),
+            "v4.div_f" => plain(self.v4() / self.f()),
             "v4.cmple" => plain(self.v4().cmple(self.v4())),
             "v4.abs_diff_eq" => plain(self.v4().abs_diff_eq(self.v4(), self.f())),
             _ => return None,
