@@ -75,3 +75,17 @@ aim_unit d t h s l =
 
 pub aim_stands : (d : ℕ) (t : Quat Frac) (s : Aim) (m : Quat Float) → d + 2 ≤ deepest → Stands d m t → Stands (d + 2) (aim_floats s m) (aim_truth s t)
 aim_stands d t s m l k = S.aim_stands d m (F.about Z s.pan) (F.about X s.tilt) t s.pan s.tilt (omega arith) k (pan_is s) (tilt_is s)
+
+-- ---- a bracket and a yoke
+
+pub bracket_unit : (d : ℕ) (t : Quat Frac) (o : Option Setting) → UnitAt d t → UnitAt (deeper 1 o d) (over 1 d set_truth o t)
+bracket_unit d t o h = layer_unit 1 d set_truth t o h (set_unit d t h)
+
+pub bracket_stands : (d : ℕ) (t : Quat Frac) (o : Option Setting) (P : Quat Float → Type 0) (q : Quat Float) → Over 1 d set_floats o P q → ((m : Quat Float) → P m → Stands d m t) → Stands (deeper 1 o d) q (over 1 d set_truth o t)
+bracket_stands d t o P q h below = layer_stands 1 d set_truth t set_floats o P q h below (set_stands d t)
+
+pub yoke_unit : (d : ℕ) (t : Quat Frac) (o : Option Aim) → UnitAt d t → UnitAt (deeper 2 o d) (over 2 d aim_truth o t)
+yoke_unit d t o h = layer_unit 2 d aim_truth t o h (aim_unit d t h)
+
+pub yoke_stands : (d : ℕ) (t : Quat Frac) (o : Option Aim) (P : Quat Float → Type 0) (q : Quat Float) → Over 2 d aim_floats o P q → ((m : Quat Float) → P m → Stands d m t) → Stands (deeper 2 o d) q (over 2 d aim_truth o t)
+yoke_stands d t o P q h below = layer_stands 2 d aim_truth t aim_floats o P q h below (aim_stands d t)

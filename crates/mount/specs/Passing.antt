@@ -1,8 +1,8 @@
 -- What passed the tests of a layer passes those of its turns.
-use Rattle.std.specs.Prelude.{◌≡◌, true, T, pos, None, refl, Float}
+use Rattle.std.specs.Prelude.{◌≡◌, ℕ, true, T, pos, None, refl, Float}
 use Rattle.std.proofs.Common.{rules}
 use Rattle.std.specs.Float.Ieee.{fits, le, of_bits}
-use Rattle.std.specs.Float.{float_is_finite, binary64}
+use Rattle.std.specs.Float.{binary64}
 use Rattle.fault.specs.Answers.{clear}
 use Rattle.exact.specs.Fraction.{whole}
 use Rattle.exact.proofs.Within.{num, closed, computes, within_≤}
@@ -22,7 +22,7 @@ use Rattle.drift.specs.Turns as F
 use Rattle.drift.specs.Laws.{IsTurn, Fair}
 use Rattle.drift.proofs.About.{turn_law}
 use Rattle.drift.proofs.EulerTurns.{order_turn}
-use Rattle.mount.specs.Facts.{angles_fault, swings_fault}
+use Rattle.mount.specs.Facts.{angles_fault, swing_fault, swings_fault}
 use Rattle.mount.specs.declared.settings.Setting.{Setting}
 use Rattle.mount.specs.declared.settings.Aim.{Aim}
 
@@ -47,14 +47,15 @@ ten : Exact (bits 0x4024_0000_0000_0000) (num 10)
 unfolding of_bits fits
 ten = literal_exact tt refl
 
-swing_angle : (v : Float) → T (fits binary64 v) → float_is_finite v ≡ true → le (size v) (bits 0x4024_0000_0000_0000) ≡ true → Angle v
+swing_angle : (at : ℕ) (v : Float) → T (fits binary64 v) → clear (swing_fault at v) ≡ true → Angle v
 unfolding computes
-swing_angle v f h l =
-    let i = number_is v f h in
+swing_angle at v f h =
+    let i = number_is v f (search rules) in
+    let l : le (size v) (bits 0x4024_0000_0000_0000) ≡ true = search rules in
     record { is = i; size = size_back (val v) (whole (pos 1000)) (within_≤ (size_within i (le_yes (own (sized v i).0) ten l)) (closed tt)) }
 
 pub aim_angles : (pan tilt : Float) → T (fits binary64 pan) → T (fits binary64 tilt) → clear (swings_fault pan tilt) ≡ true → Angle pan × Angle tilt
-aim_angles pan tilt fp ft h = (swing_angle pan fp (search rules) (search rules), swing_angle tilt ft (search rules) (search rules))
+aim_angles pan tilt fp ft h = (swing_angle 1 pan fp (search rules), swing_angle 2 tilt ft (search rules))
 
 -- so that its turns are made
 module _ (s : Aim) where
