@@ -13,6 +13,7 @@ use numeric::{atan2_raw, sqrt};
 // Below this a cosine or a sine of the middle angle counts as lost: 16 times the distance from 1 to the next f64.
 const POLE: f64 = 3.552713678800501e-15;
 
+// The two formulas take the axis numbers one by one, as the original writes them; a struct of the three would be no plainer.
 impl DMat3 {
     fn repeated_angles(self, i: usize, j: usize, k: usize, border: f64) -> (f64, f64, f64)
         ensures { result ≡ repeated_angles (entry self) i j k border }

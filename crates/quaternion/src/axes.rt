@@ -251,6 +251,7 @@ fn arc(from: DVec3, to: DVec3) -> Result<DQuat, RotationFault>
     }
 }
 
+// In the plane the sum is normalised on the spot and never refused, so that this and `arc2` are no case of the two above.
 fn across2(from: DVec2, to: DVec2) -> DQuat
     ensures { result ≡ across2 from to }
 {

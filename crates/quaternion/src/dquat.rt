@@ -1,4 +1,5 @@
-// A quaternion representing an orientation. It is meant to be of length 1; products and roundings let it drift.
+// A quaternion representing an orientation. It is meant to be of length 1; products and roundings let it drift. Every call takes every
+// quaternion; what is promised of those near length 1 stands under that premise, since a type for them would take fewer.
 ghost use Rattle.std.specs.Prelude.{◌≡◌, [], ◌∷◌, IfOk};
 ghost use Rattle.fault.specs.Answers.{answer};
 ghost use Rattle.exact.specs.Quat.{product, dot, square, conjugate, plus, minus, scale};
