@@ -26,6 +26,7 @@ impl<'a> Call<'a> {
         self.words.next().unwrap_or("")
     }
 
+    // As `numeric_vectors` reads its numbers; two programs share no crate for one line.
     pub(crate) fn f(&mut self) -> f64 {
         u64::from_str_radix(self.word(), 16).map_or(f64::NAN, |bits| f64_from_bits_with_nan(bits))
     }

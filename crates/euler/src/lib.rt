@@ -136,7 +136,7 @@ impl Default for EulerRot {
     }
 }
 
-// What three angles in an order make.
+// What three angles in an order make. The angles stand one by one, here and in all that take them, as in the original.
 pub trait FromEuler: Sized {
     type Scalar;
 

@@ -25,7 +25,7 @@ impl DMat3 {
         }
     }
 
-    // From a table of columns.
+    // From a table of columns: the original's one name for this.
     pub fn from_cols_array_2d(m: [[f64; 3]; 3]) -> DMat3
         ensures { result ≡ listed m }
     {

@@ -52,6 +52,7 @@ impl DQuat {
         DQuat::from_xyzw(a[0], a[1], a[2], a[3])
     }
 
+    // The original's one name for this, as are the two of slices below, which refuse; it has no conversion of them by `From`.
     pub fn from_vec4(v: DVec4) -> DQuat
         ensures { parts result ≡ V.parts4 v }
     {
