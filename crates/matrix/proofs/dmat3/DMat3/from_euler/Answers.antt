@@ -10,13 +10,10 @@ euler_matrix : EulerMatrixLaw
 unfolding from_euler by_order
 euler_matrix n x y z hx hy hz = let column = euler_column n x y z hx hy hz in record { x_axis = column X; y_axis = column Y; z_axis = column Z }
 
-pub returns : goal.returns
-returns c =
+pub returns-clause-near : goal.returns-clause-near
+returns-clause-near c =
     let n = c.args.order in
     let x = c.args.a in
     let y = c.args.b in
     let z = c.args.c in
-    record {
-      value = search rules;
-      near = subst (λ r. IfOk r (IsEulerMatrix n x y z)) (sym c.from_euler_angles.ensures) (angles_pass (IsEulerMatrix n x y z) (from_euler n x y z) (search rules) (search rules) (search rules) (euler_matrix n x y z));
-    }
+    subst (λ r. IfOk r (IsEulerMatrix n x y z)) (sym c.from_euler_angles.ensures) (angles_pass (IsEulerMatrix n x y z) (from_euler n x y z) (search rules) (search rules) (search rules) (euler_matrix n x y z))

@@ -10,13 +10,10 @@ euler_turn : EulerTurnLaw
 unfolding from_euler
 euler_turn n x y z hx hy hz = let t = order_turn n x y z hx hy hz in record { kept = t.kept; near = t.near }
 
-pub returns : goal.returns
-returns c =
+pub returns-clause-near : goal.returns-clause-near
+returns-clause-near c =
     let n = c.args.euler in
     let x = c.args.a in
     let y = c.args.b in
     let z = c.args.c in
-    record {
-      value = search rules;
-      near = subst (λ r. IfOk r (λ q. IsEulerTurn n x y z (parts q))) (sym c.from_euler_angles.ensures) (angles_pass (λ q. IsEulerTurn n x y z (parts q)) (from_euler n x y z) (search rules) (search rules) (search rules) (euler_turn n x y z));
-    }
+    subst (λ r. IfOk r (λ q. IsEulerTurn n x y z (parts q))) (sym c.from_euler_angles.ensures) (angles_pass (λ q. IsEulerTurn n x y z (parts q)) (from_euler n x y z) (search rules) (search rules) (search rules) (euler_turn n x y z))
