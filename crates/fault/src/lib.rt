@@ -3,6 +3,7 @@
 #![tactic(auto)]
 
 ghost use Rattle.std.specs.Prelude.{◌≡◌};
+ghost use Rattle.fault.specs.Answers.{answer, unless};
 ghost use Rattle.fault.specs.Faults.{number, refusal, place, layer, rotation_refusal, rotation_place, rotation_layer, rig_refusal, rig_place, rig_layer};
 ghost use Rattle.fault.specs.declared.Refusal.{Refusal as Reason};
 ghost use Rattle.fault.specs.declared.Place.{Place as About};
@@ -79,6 +80,13 @@ pub trait Fault: Copy {
     {
         u8::from(self.refusal())
     }
+}
+
+// The answer to one test: nothing where it is passed, and else its fault.
+pub fn unless<F: Fault>(passed: bool, fault: F) -> Result<(), F>
+    ensures { result ≡ answer (unless passed fault) tt }
+{
+    if passed { Ok(()) } else { Err(fault) }
 }
 
 // The fault of a number, with the argument that it is.

@@ -4,7 +4,7 @@ ghost use Rattle.fault.specs.Answers.{answer};
 ghost use Rattle.vectors.specs.Masks.{index_fault};
 ghost use Rattle.matrix.specs.Matrices.{matrix, listed, column, entry, finite9, axes_fault};
 
-use fault::{NumberFault, RotationFault};
+use fault::{NumberFault, RotationFault, unless};
 use vectors::{DVec3, Vector};
 
 #[derive(Clone, Copy, PartialEq, Debug)]
@@ -37,7 +37,7 @@ impl DMat3 {
         )
     }
 
-    // The matrix column for the given `index`.
+    // The matrix column for the given `index`. A match, as in `DVec3::at`: each names what it holds.
     pub fn col(self, index: usize) -> Result<DVec3, RotationFault>
         ensures { result ≡ answer (index_fault 3 index) (column self index) }
     {
@@ -76,9 +76,7 @@ impl DMat3 {
     pub fn check_axes(self) -> Result<(), RotationFault>
         ensures { result ≡ answer (axes_fault self) tt }
     {
-        if !self.is_finite() {
-            return Err(NumberFault::NotFinite(0).into());
-        }
+        unless(self.is_finite(), NumberFault::NotFinite(0))?;
         self.x_axis.check_normalized(0)?;
         self.y_axis.check_normalized(0)?;
         self.z_axis.check_normalized(0)

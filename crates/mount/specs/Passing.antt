@@ -12,6 +12,7 @@ use Rattle.rounding.proofs.Rounds.{Exact, own}
 use Rattle.rounding.proofs.Compare.{le_yes}
 use Rattle.rounding.proofs.Convert.{literal_exact}
 use Rattle.numeric.specs.Floats.{bits, size}
+use Rattle.numeric.specs.Tests.{angle_fault}
 use Rattle.numeric.specs.Laws.{Angle}
 use Rattle.numeric.proofs.Tests.{number_is, angle_is}
 use Rattle.numeric.proofs.Sines.{sized, size_within}
@@ -27,6 +28,9 @@ use Rattle.mount.specs.declared.settings.Setting.{Setting}
 use Rattle.mount.specs.declared.settings.Aim.{Aim}
 
 -- ---- a bracket's angles
+
+angle_again : (i j : ℕ) (v : Float) → clear (angle_fault i v) ≡ true → angle_fault j v ≡ None
+angle_again i j v h = search rules
 
 pub set_passes : (a b c : Float) → clear (angles_fault a b c) ≡ true → euler_fault a b c ≡ None
 set_passes a b c h = search rules

@@ -9,7 +9,7 @@ use crate::below::{DEEPEST, Mount};
 use crate::settings::{Aim, Setting};
 use crate::turning::{Turning, check_swings};
 use euler::EulerRot;
-use fault::{RigFault, RotationFault};
+use fault::{RigFault, RotationFault, unless};
 use numeric::check_angles;
 use quaternion::DQuat;
 
@@ -40,11 +40,10 @@ impl<M: Mount, T: Turning> Layer<M, T> {
     fn check_room(&self) -> Result<(), RigFault>
         ensures { result ≡ answer (room_fault T.Turning.STEPS (M.Mount.deep self.now.below)) tt }
     {
-        if T::STEPS <= DEEPEST - self.below.depth() {
-            Ok(())
-        } else {
-            Err(RigFault::TooDeep(0))
-        }
+        unless(
+            T::STEPS <= DEEPEST - self.below.depth(),
+            RigFault::TooDeep(0),
+        )
     }
 }
 

@@ -7,7 +7,7 @@ ghost use Rattle.numeric.specs.Floats.{size};
 ghost use Rattle.numeric.specs.Tests.{number_fault, size_fault, angle_fault, angles_fault};
 ghost use Rattle.numeric.specs.Laws.{Angle};
 
-use fault::NumberFault;
+use fault::{NumberFault, unless};
 
 // What an angle is at most, in size.
 pub const LARGEST_ANGLE: f64 = 1000.0;
@@ -18,11 +18,7 @@ pub fn check_number(argument: u8, v: f64) -> Result<(), NumberFault>
     ensures value { result ≡ answer (number_fault argument v) tt }
     ensures passed { OnOk result (Is v) }
 {
-    if v.is_finite() {
-        Ok(())
-    } else {
-        Err(NumberFault::NotFinite(argument))
-    }
+    unless(v.is_finite(), NumberFault::NotFinite(argument))
 }
 
 // A number is at most `largest` in size.
@@ -31,11 +27,7 @@ pub fn check_size(argument: u8, v: f64, largest: f64) -> Result<(), NumberFault>
     ensures passed { OnOk result (Is v × IsTrue (le (size v) largest)) }
 {
     check_number(argument, v)?;
-    if v.abs() <= largest {
-        Ok(())
-    } else {
-        Err(NumberFault::TooLarge(argument))
-    }
+    unless(v.abs() <= largest, NumberFault::TooLarge(argument))
 }
 
 // An angle is a number of at most 1000 in size.

@@ -79,7 +79,7 @@ impl FromStr for Replay {
 
     fn from_str(line: &str) -> Result<Replay, UnknownFunction> {
         let mut words = line.split_whitespace();
-        let function = words.next().unwrap_or("").parse::<Function>()?;
+        let function = words.next().ok_or(UnknownFunction)?.parse::<Function>()?;
         let a = number(words.next());
         let b = number(words.next());
         let c = number(words.next());
@@ -98,6 +98,7 @@ impl FromStr for Replay {
     }
 }
 
+// What is no number lies outside every bound. As `calls` reads its numbers; two programs share no crate for one line.
 fn number(word: Option<&str>) -> f64 {
     word.and_then(|text| u64::from_str_radix(text, 16).ok())
         .map_or(f64::NAN, |bits| f64_from_bits_with_nan(bits))

@@ -158,14 +158,17 @@ abbrev pub arc_fault2 : DVec2 → DVec2 → Option RotationFault
 arc_fault2 f t =
     unless (finite2 f) (Number (NotFinite 0)) ⨾ unless (finite2 t) (Number (NotFinite 1)) ⨾ unless (unit (dot2 f f)) (NotNormalized 0) ⨾ unless (unit (dot2 t t)) (NotNormalized 1)
 
+abbrev pub cross2 : DVec2 → DVec2 → Float
+cross2 f t = f.x ⊗ t.y ⊖ t.x ⊗ f.y
+
 abbrev pub across2 : DVec2 → DVec2 → DQuat
 across2 f t =
-    let z = f.x ⊗ t.y ⊖ t.x ⊗ f.y in
+    let z = cross2 f t in
     let w = one ⊕ dot2 f t in
     let r = recip (z ⊗ z ⊕ w ⊗ w) in
     quat zero zero (z ⊗ r) (w ⊗ r)
 
 unfoldable pub arc2 : DVec2 → DVec2 → DQuat
 arc2 f t =
-    let z = f.x ⊗ t.y ⊖ t.x ⊗ f.y in
+    let z = cross2 f t in
     cond (lt nearly_one (dot2 f t)) identity (cond (opposed (dot2 f t) (z ⊗ z)) (quat zero zero one zero) (across2 f t))

@@ -23,6 +23,10 @@ use Rattle.quaternion.specs.Quaternions.{whole}
 abbrev pub share_fault : ℕ → Float → Option NumberFault
 share_fault at s = size_fault (bits 0x4072_C000_0000_0000) at s
 
+-- two quaternions and a number of at most `largest` in size
+abbrev pub way_fault : Float → Quat Float → Quat Float → Float → Option RotationFault
+way_fault largest p q s = within Number (finite_fault4 0 p ⨾ finite_fault4 1 q ⨾ size_fault largest 2 s) ⨾ length_fault4 0 p ⨾ length_fault4 1 q
+
 -- two quaternions and a share
 abbrev pub pair_fault : Quat Float → Quat Float → Float → Option RotationFault
 pair_fault p q s = within Number (finite_fault4 0 p ⨾ finite_fault4 1 q ⨾ share_fault 2 s) ⨾ length_fault4 0 p ⨾ length_fault4 1 q

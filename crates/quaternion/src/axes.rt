@@ -6,10 +6,10 @@ ghost use Rattle.rounding.specs.Value.{floats};
 ghost use Rattle.vectors.specs.Vectors as V;
 ghost use Rattle.numeric.specs.Floats.{minus_one};
 ghost use Rattle.quaternion.specs.Quaternions.{parts, whole};
-ghost use Rattle.quaternion.specs.Axes.{finite_fault, length_fault, axis_turn, axis_fault, at_most_angle, scaled_fault, about_scaled, scaled_turn, at_most_1e100, axis_angle_fault, axis_angle, scaled_axis, axes_fault, most_x, most_y, most_z, most_w, from_axes, opposed, arc_fault, around, across_answer, arc_answer, arc_to, colinear, arc_fault2, across2, arc2};
+ghost use Rattle.quaternion.specs.Axes.{finite_fault, length_fault, axis_turn, axis_fault, at_most_angle, scaled_fault, about_scaled, scaled_turn, at_most_1e100, axis_angle_fault, axis_angle, scaled_axis, axes_fault, most_x, most_y, most_z, most_w, from_axes, opposed, arc_fault, around, across_answer, arc_answer, arc_to, colinear, arc_fault2, cross2, across2, arc2};
 
 use crate::DQuat;
-use fault::{NumberFault, RotationFault};
+use fault::{NumberFault, RotationFault, unless};
 use matrix::DMat3;
 use numeric::{LARGEST_ANGLE, atan2_raw, check_angle, sin_cos_raw, sqrt};
 use std::f64::consts::PI;
@@ -93,9 +93,7 @@ impl DQuat {
         ensures { result ≡ answer (scaled_fault (V.parts v)) (scaled_turn (V.parts v)) }
     {
         v.check_finite(0)?;
-        if !at_most_angle(v) {
-            return Err(NumberFault::TooLarge(0).into());
-        }
+        unless(at_most_angle(v), NumberFault::TooLarge(0))?;
         Ok(scaled_turn(v))
     }
 
@@ -104,9 +102,7 @@ impl DQuat {
         ensures { result ≡ answer (axis_angle_fault (parts self)) (axis_angle (parts self)) }
     {
         self.check_finite(0)?;
-        if !at_most_1e100(self) {
-            return Err(NumberFault::TooLarge(0).into());
-        }
+        unless(at_most_1e100(self), NumberFault::TooLarge(0))?;
         Ok(axis_angle(self))
     }
 
@@ -124,11 +120,7 @@ impl DQuat {
 fn most_x(m: DMat3) -> DQuat
     ensures { parts result ≡ most_x (V.parts m.x_axis) (V.parts m.y_axis) (V.parts m.z_axis) }
 {
-    let DMat3 {
-        x_axis: x,
-        y_axis: y,
-        z_axis: z,
-    } = m;
+    let (x, y, z) = (m.x_axis, m.y_axis, m.z_axis);
     let four_xsq = (1.0 - z.z) - (y.y - x.x);
     DQuat::from_xyzw(four_xsq, x.y + y.x, x.z + z.x, y.z - z.y) * (0.5 / sqrt(four_xsq))
 }
@@ -136,11 +128,7 @@ fn most_x(m: DMat3) -> DQuat
 fn most_y(m: DMat3) -> DQuat
     ensures { parts result ≡ most_y (V.parts m.x_axis) (V.parts m.y_axis) (V.parts m.z_axis) }
 {
-    let DMat3 {
-        x_axis: x,
-        y_axis: y,
-        z_axis: z,
-    } = m;
+    let (x, y, z) = (m.x_axis, m.y_axis, m.z_axis);
     let four_ysq = (1.0 - z.z) + (y.y - x.x);
     DQuat::from_xyzw(x.y + y.x, four_ysq, y.z + z.y, z.x - x.z) * (0.5 / sqrt(four_ysq))
 }
@@ -148,11 +136,7 @@ fn most_y(m: DMat3) -> DQuat
 fn most_z(m: DMat3) -> DQuat
     ensures { parts result ≡ most_z (V.parts m.x_axis) (V.parts m.y_axis) (V.parts m.z_axis) }
 {
-    let DMat3 {
-        x_axis: x,
-        y_axis: y,
-        z_axis: z,
-    } = m;
+    let (x, y, z) = (m.x_axis, m.y_axis, m.z_axis);
     let four_zsq = (1.0 + z.z) - (y.y + x.x);
     DQuat::from_xyzw(x.z + z.x, y.z + z.y, four_zsq, x.y - y.x) * (0.5 / sqrt(four_zsq))
 }
@@ -160,11 +144,7 @@ fn most_z(m: DMat3) -> DQuat
 fn most_w(m: DMat3) -> DQuat
     ensures { parts result ≡ most_w (V.parts m.x_axis) (V.parts m.y_axis) (V.parts m.z_axis) }
 {
-    let DMat3 {
-        x_axis: x,
-        y_axis: y,
-        z_axis: z,
-    } = m;
+    let (x, y, z) = (m.x_axis, m.y_axis, m.z_axis);
     let four_wsq = (1.0 + z.z) + (y.y + x.x);
     DQuat::from_xyzw(y.z - z.y, z.x - x.z, x.y - y.x, four_wsq) * (0.5 / sqrt(four_wsq))
 }
@@ -251,11 +231,18 @@ fn arc(from: DVec3, to: DVec3) -> Result<DQuat, RotationFault>
     }
 }
 
+// The third component of the cross product of two vectors in the plane.
+fn cross2(from: DVec2, to: DVec2) -> f64
+    ensures { result ≡ cross2 from to }
+{
+    from.x * to.y - to.x * from.y
+}
+
 // In the plane the sum is normalised on the spot and never refused, so that this and `arc2` are no case of the two above.
 fn across2(from: DVec2, to: DVec2) -> DQuat
     ensures { result ≡ across2 from to }
 {
-    let z = from.x * to.y - to.x * from.y;
+    let z = cross2(from, to);
     let w = 1.0 + from.dot(to);
     let len_rcp = 1.0 / sqrt(z * z + w * w);
     DQuat::from_xyzw(0.0, 0.0, z * len_rcp, w * len_rcp)
@@ -266,7 +253,7 @@ fn arc2(from: DVec2, to: DVec2) -> DQuat
     ensures { result ≡ arc2 from to }
 {
     let dot = from.dot(to);
-    let z = from.x * to.y - to.x * from.y;
+    let z = cross2(from, to);
     if dot > NEARLY_ONE {
         DQuat::IDENTITY
     } else if opposed(dot, z * z) {
@@ -282,10 +269,7 @@ impl DQuat {
     pub fn from_rotation_arc(from: DVec3, to: DVec3) -> Result<DQuat, RotationFault>
         ensures { result ≡ arc_to from to }
     {
-        from.check_finite(0)?;
-        to.check_finite(1)?;
-        from.check_normalized(0)?;
-        to.check_normalized(1)?;
+        from.check_units(to)?;
         arc(from, to)
     }
 
@@ -304,10 +288,7 @@ impl DQuat {
     pub fn from_rotation_arc_2d(from: DVec2, to: DVec2) -> Result<DQuat, RotationFault>
         ensures { result ≡ answer (arc_fault2 from to) (arc2 from to) }
     {
-        from.check_finite(0)?;
-        to.check_finite(1)?;
-        from.check_normalized(0)?;
-        to.check_normalized(1)?;
+        from.check_units(to)?;
         Ok(arc2(from, to))
     }
 }

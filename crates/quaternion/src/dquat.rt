@@ -63,10 +63,8 @@ impl DQuat {
     pub fn from_slice(slice: &[f64]) -> Result<DQuat, RotationFault>
         ensures { result ≡ answer (four_fault 0 slice.now) (listed slice.now) }
     {
-        if slice.len() < 4 {
-            return Err(RotationFault::TooShort(0));
-        }
-        Ok(DQuat::from_xyzw(slice[0], slice[1], slice[2], slice[3]))
+        let a = slice.first_chunk::<4>().ok_or(RotationFault::TooShort(0))?;
+        Ok(DQuat::from_array(*a))
     }
 
     // Into the first four numbers of a slice; nothing is written where it is too short.
@@ -144,8 +142,7 @@ impl DQuat {
     pub fn inverse(self) -> Result<DQuat, RotationFault>
         ensures { result ≡ answer (unit_fault4 0 (parts self)) (whole (conjugate floats (parts self))) }
     {
-        self.check_finite(0)?;
-        self.check_normalized(0)?;
+        self.check_unit(0)?;
         Ok(self.conjugate())
     }
 

@@ -2,24 +2,24 @@
 ghost use Rattle.std.specs.Prelude.{◌≡◌};
 ghost use Rattle.fault.specs.Answers.{answer, tested};
 ghost use Rattle.quaternion.specs.Quaternions.{parts, whole};
-ghost use Rattle.quaternion.specs.Interpolation.{pair_fault, between_fault, towards_fault, between, mixed_answer, lerp_answer, swept, nearer, reaches, way, slerp_answer, slerp_long_answer, towards_answer};
+ghost use Rattle.quaternion.specs.Interpolation.{way_fault, pair_fault, between_fault, towards_fault, between, mixed_answer, lerp_answer, swept, nearer, reaches, way, slerp_answer, slerp_long_answer, towards_answer};
 
 use crate::DQuat;
 use fault::RotationFault;
-use numeric::{acos_raw, check_angle, check_size, sin_cos_raw};
+use numeric::{LARGEST_ANGLE, acos_raw, check_size, sin_cos_raw};
 use vectors::Vector;
 
 // A share of more than 300 in size is refused: the angles that it makes stay below 1000.
 const LARGEST_SHARE: f64 = 300.0;
 
 impl DQuat {
-    // Tests for a way from `self` to `end` by the share `s`.
-    fn check_way(self, end: DQuat, s: f64) -> Result<(), RotationFault>
-        ensures { result ≡ answer (pair_fault (parts self) (parts end) s) tt }
+    // Tests for a way from `self` to `end` by a number of at most `largest` in size.
+    fn check_way(self, end: DQuat, s: f64, largest: f64) -> Result<(), RotationFault>
+        ensures { result ≡ answer (way_fault largest (parts self) (parts end) s) tt }
     {
         self.check_finite(0)?;
         end.check_finite(1)?;
-        check_size(2, s, LARGEST_SHARE)?;
+        check_size(2, s, largest)?;
         self.check_normalized(0)?;
         end.check_normalized(1)
     }
@@ -28,10 +28,7 @@ impl DQuat {
     pub fn angle_between(self, rhs: DQuat) -> Result<f64, RotationFault>
         ensures { result ≡ answer (between_fault (parts self) (parts rhs)) (between (parts self) (parts rhs)) }
     {
-        self.check_finite(0)?;
-        rhs.check_finite(1)?;
-        self.check_normalized(0)?;
-        rhs.check_normalized(1)?;
+        self.check_units(rhs)?;
         Ok(self.angle_raw(rhs))
     }
 
@@ -47,11 +44,7 @@ impl DQuat {
     pub fn rotate_towards(self, rhs: DQuat, max_angle: f64) -> Result<DQuat, RotationFault>
         ensures { result ≡ tested (towards_fault (parts self) (parts rhs) max_angle) (towards_answer (parts self) (parts rhs) max_angle) }
     {
-        self.check_finite(0)?;
-        rhs.check_finite(1)?;
-        check_angle(2, max_angle)?;
-        self.check_normalized(0)?;
-        rhs.check_normalized(1)?;
+        self.check_way(rhs, max_angle, LARGEST_ANGLE)?;
         self.towards(rhs, max_angle)
     }
 
@@ -79,7 +72,7 @@ impl DQuat {
     pub fn lerp(self, end: DQuat, s: f64) -> Result<DQuat, RotationFault>
         ensures { result ≡ tested (pair_fault (parts self) (parts end) s) (lerp_answer (parts self) (parts end) s) }
     {
-        self.check_way(end, s)?;
+        self.check_way(end, s, LARGEST_SHARE)?;
         self.lerp_raw(end, s)
     }
 
@@ -106,7 +99,7 @@ impl DQuat {
     pub fn slerp(self, end: DQuat, s: f64) -> Result<DQuat, RotationFault>
         ensures { result ≡ tested (pair_fault (parts self) (parts end) s) (slerp_answer (parts self) (parts end) s) }
     {
-        self.check_way(end, s)?;
+        self.check_way(end, s, LARGEST_SHARE)?;
         self.slerp_raw(end, s)
     }
 
@@ -116,9 +109,9 @@ impl DQuat {
     {
         let dot = self.dot(end);
         if dot < 0.0 {
-            self.sweep(-end, -dot, s, nearer(-dot))
+            self.shorter(-end, -dot, s)
         } else {
-            self.sweep(end, dot, s, nearer(dot))
+            self.shorter(end, dot, s)
         }
     }
 
@@ -126,7 +119,7 @@ impl DQuat {
     pub fn slerp_long(self, end: DQuat, s: f64) -> Result<DQuat, RotationFault>
         ensures { result ≡ tested (pair_fault (parts self) (parts end) s) (slerp_long_answer (parts self) (parts end) s) }
     {
-        self.check_way(end, s)?;
+        self.check_way(end, s, LARGEST_SHARE)?;
         self.slerp_long_raw(end, s)
     }
 
@@ -135,14 +128,18 @@ impl DQuat {
         ensures { result ≡ slerp_long_answer (parts self) (parts end) s }
     {
         let dot = self.dot(end);
-        self.sweep(end, dot, s, nearer(dot.abs()))
+        if nearer(dot.abs()) {
+            self.lerp_impl(end, s)
+        } else {
+            Ok(self.slerp_impl(end, dot, s))
+        }
     }
 
-    // Straight where the two are so near that the sine of their angle is lost; each caller judges that by a number of its own.
-    fn sweep(self, end: DQuat, dot: f64, s: f64, straight: bool) -> Result<DQuat, RotationFault>
-        ensures { result ≡ way (parts self) (parts end) dot s straight }
+    // Where the two are no more than a quarter turn apart: straight if they are so near that the sine of their angle is lost.
+    fn shorter(self, end: DQuat, dot: f64, s: f64) -> Result<DQuat, RotationFault>
+        ensures { result ≡ way (parts self) (parts end) dot s (nearer dot) }
     {
-        if straight {
+        if nearer(dot) {
             self.lerp_impl(end, s)
         } else {
             Ok(self.slerp_impl(end, dot, s))

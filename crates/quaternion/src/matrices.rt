@@ -50,8 +50,7 @@ impl FromQuat for DMat3 {
     ghost rotated = { λ q. to_matrix q };
 
     fn from_quat(rotation: DQuat) -> Result<DMat3, RotationFault> {
-        rotation.check_finite(0)?;
-        rotation.check_normalized(0)?;
+        rotation.check_unit(0)?;
         Ok(to_matrix(rotation))
     }
 }

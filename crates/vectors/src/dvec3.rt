@@ -101,8 +101,7 @@ impl DVec3 {
     pub fn any_orthonormal_vector(self) -> Result<DVec3, RotationFault>
         ensures { result ≡ answer (unit_fault 0 (parts self)) (orthonormal self) }
     {
-        self.check_finite(0)?;
-        self.check_normalized(0)?;
+        self.check_unit(0)?;
         Ok(self.orthonormal_raw())
     }
 

@@ -9,7 +9,7 @@ ghost use Rattle.vectors.specs.Masks.{every};
 ghost use Rattle.vectors.specs.Vectors.{vec4, vector4, parts4, finite4, nan4, unit, recip, over4, opposite4, size4, at_most, overflows, underflows, scaled, normal, normal_fault, close4};
 
 use crate::{BVec4, Vector};
-use fault::RotationFault;
+use fault::{RotationFault, unless};
 use std::ops::{Add, Div, Mul, Neg, Sub};
 
 // 2^600 and 2^-600: a vector whose squared length overflows, or is too small for all its digits, is scaled before it is normalised.
@@ -98,11 +98,8 @@ impl DVec4 {
     {
         let v = self.in_range();
         let normalized = v * v.length_recip();
-        if normalized.is_finite() {
-            Ok(normalized)
-        } else {
-            Err(RotationFault::NotNormalizable(0))
-        }
+        unless(normalized.is_finite(), RotationFault::NotNormalizable(0))?;
+        Ok(normalized)
     }
 
     // Whether all components differ by at most `max_abs_diff`.

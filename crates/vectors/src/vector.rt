@@ -1,12 +1,12 @@
 // What vectors of every size have, and quaternions: lengths, and the tests of an argument.
 ghost use Rattle.std.specs.Prelude.{◌≡◌, Bool, Float};
 ghost use Rattle.std.specs.Float.{binary64, sqrt as root};
-ghost use Rattle.fault.specs.Answers.{unless, answer};
+ghost use Rattle.fault.specs.Answers.{unless, within, ◌⨾◌, answer};
 ghost use Rattle.fault.specs.declared.NumberFault.TheVariants.{NotFinite};
-ghost use Rattle.fault.specs.declared.RotationFault.TheVariants.{NotNormalized};
+ghost use Rattle.fault.specs.declared.RotationFault.TheVariants.{Number, NotNormalized};
 ghost use Rattle.vectors.specs.Lengths.{unit, recip};
 
-use fault::{NumberFault, RotationFault};
+use fault::{NumberFault, RotationFault, unless};
 use numeric::sqrt;
 
 pub trait Vector: Copy {
@@ -60,21 +60,31 @@ pub trait Vector: Copy {
     fn check_finite(self, argument: u8) -> Result<(), NumberFault>
         ensures { result ≡ answer (unless (finite self) (NotFinite argument)) tt }
     {
-        if self.is_finite() {
-            Ok(())
-        } else {
-            Err(NumberFault::NotFinite(argument))
-        }
+        unless(self.is_finite(), NumberFault::NotFinite(argument))
     }
 
     // 3 where an argument that has to be normalised is not.
     fn check_normalized(self, argument: u8) -> Result<(), RotationFault>
         ensures { result ≡ answer (unless (unit (inner self self)) (NotNormalized argument)) tt }
     {
-        if self.is_normalized() {
-            Ok(())
-        } else {
-            Err(RotationFault::NotNormalized(argument))
-        }
+        unless(self.is_normalized(), RotationFault::NotNormalized(argument))
+    }
+
+    // What has to be normalised: 1, then 3.
+    fn check_unit(self, argument: u8) -> Result<(), RotationFault>
+        ensures { result ≡ answer (within Number (unless (finite self) (NotFinite argument)) ⨾ unless (unit (inner self self)) (NotNormalized argument)) tt }
+    {
+        self.check_finite(argument)?;
+        self.check_normalized(argument)
+    }
+
+    // Two that have to be normalised, as arguments 0 and 1: 1 of each, then 3 of each.
+    fn check_units(self, rhs: Self) -> Result<(), RotationFault>
+        ensures { result ≡ answer (within Number (unless (finite self) (NotFinite 0) ⨾ unless (finite rhs) (NotFinite 1)) ⨾ unless (unit (inner self self)) (NotNormalized 0) ⨾ unless (unit (inner rhs rhs)) (NotNormalized 1)) tt }
+    {
+        self.check_finite(0)?;
+        rhs.check_finite(1)?;
+        self.check_normalized(0)?;
+        rhs.check_normalized(1)
     }
 }
