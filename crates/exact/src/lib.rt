@@ -78,6 +78,7 @@ pub fn quaternion_examples_stand()
 {}
 
 /// Ties, quarters, and the sine and cosine of 0.
+#[tactic(auto, using(crate::proofs::Shown::sine_examples))]
 pub fn sine_examples_stand()
     ensures { SineExamples }
 {}
@@ -89,6 +90,7 @@ pub fn turn_examples_stand()
 {}
 
 /// Forty sines and cosines to 24 digits.
+#[tactic(auto, using(crate::proofs::Tables::table_reads))]
 pub fn table_stands()
     ensures { TableReads }
 {}
