@@ -6,7 +6,8 @@ use crate::{EulerRot, FromEuler};
 use fault::RotationFault;
 
 // The rotations of the triples in the given order, into the first places of `out`; how many there are. Where `out` is too short, or
-// a triple is refused, nothing is written. The places are the caller's, since the rotations need no heap.
+// a triple is refused, nothing is written. The places are the caller's: a Vec would need an allocator, and could
+// be refused for want of memory.
 pub fn from_euler_list<R: FromEuler<Scalar = f64> + Copy>(
     order: EulerRot,
     angles: &[(f64, f64, f64)],

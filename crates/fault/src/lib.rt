@@ -131,6 +131,7 @@ pub enum RotationFault {
     TooShort(u8),
 }
 
+// Written by hand, for a contract names the fault that a `?` makes.
 impl From<NumberFault> for RotationFault {
     ghost from_gives = { λ f r. r ≡ OfNumber f };
 
@@ -190,6 +191,7 @@ pub enum RigFault {
     InRecord(u8, u8, RotationFault),
 }
 
+// As above.
 impl From<RotationFault> for RigFault {
     ghost from_gives = { λ f r. r ≡ OfRotation f };
 

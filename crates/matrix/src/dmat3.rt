@@ -56,7 +56,7 @@ impl DMat3 {
         self.x_axis.is_finite() && self.y_axis.is_finite() && self.z_axis.is_finite()
     }
 
-    // The entry in column `c` and row `r`; 2 stands for what is higher.
+    // The entry in column `c` and row `r`; 2 stands for what is higher. Axes are numbers here, as in the original's tables.
     pub(crate) fn entry(self, c: usize, r: usize) -> f64
         ensures { result ≡ entry self c r }
     {

@@ -12,7 +12,8 @@ use euler::{EulerRot, FromEuler, Order};
 use fault::RotationFault;
 use numeric::{check_angles, sin_cos_raw};
 
-// From the sines and cosines of the angles, as they stand to the axes i, j and k.
+// From the sines and cosines of the angles, as they stand to the axes i, j and k. The products are the original's lines, as in the
+// quaternion's text.
 fn from_sines(order: Order, first: (f64, f64), middle: (f64, f64), last: (f64, f64)) -> DMat3
     ensures { result ≡ placed order (nine floats order.initial_repeated first middle last) }
 {

@@ -28,6 +28,8 @@ pub(crate) fn check_swings(pan: f64, tilt: f64) -> Result<(), RotationFault>
     Ok(())
 }
 
+// Each step asks that what it turns is kept, or sound; a type for that would be made and unmade at every step.
+
 // `below` turned by a turn that is kept.
 fn step(below: DQuat, turn: DQuat) -> DQuat
     requires below { Sound (parts below) }

@@ -64,7 +64,7 @@ fn atan_unit(q: f64) -> f64
     }
 }
 
-// The angle of the point (x, y), for a y that is not negative; 0 at the origin. The two numbers stand apart, as the C interface passes them.
+// The angle of the point (x, y), for a y that is not negative; 0 at the origin. The two numbers stand apart, here and in what follows, as the C interface passes them.
 fn angle_up(y: f64, x: f64) -> f64
     ensures { result ≡ angle_up y x }
 {

@@ -188,8 +188,10 @@ impl DQuat {
 
 // ---- from one direction to another
 
+// 1 − 2^-51
 const NEARLY_ONE: f64 = 0.9999999999999996;
 
+// 2^-48, which has nothing to do with the border of a pole, of the same size
 const TINY_SQUARE: f64 = 3.552713678800501e-15;
 
 fn opposed(dot: f64, square: f64) -> bool

@@ -71,13 +71,10 @@ impl DQuat {
     pub fn write_to_slice(self, slice: &mut [f64]) -> Result<(), RotationFault>
         ensures { Wrote (parts self) slice.old result slice.new }
     {
-        if slice.len() < 4 {
-            return Err(RotationFault::TooShort(1));
-        }
-        slice[0] = self.x;
-        slice[1] = self.y;
-        slice[2] = self.z;
-        slice[3] = self.w;
+        let four = slice
+            .first_chunk_mut::<4>()
+            .ok_or(RotationFault::TooShort(1))?;
+        *four = self.to_array();
         Ok(())
     }
 

@@ -11,7 +11,8 @@ use euler::{EulerRot, FromEuler, Order};
 use fault::RotationFault;
 use numeric::{check_angles, sin_cos_raw};
 
-// From the sines and cosines of half the angles, as they stand to the axes i, j and k.
+// From the sines and cosines of half the angles, as they stand to the axes i, j and k. The products are the original's lines, as in
+// the matrix's text.
 fn from_halves(order: Order, first: (f64, f64), middle: (f64, f64), last: (f64, f64)) -> DQuat
     ensures { parts result ≡ assembled floats (parity order.parity_even) order (angle first) (angle middle) (angle last) }
 {
