@@ -1,4 +1,5 @@
-// A call: its name, and its words one argument at a time. What is missing or no number reads as NaN, 0 or ZYX.
+// A call: its name, and its words one argument at a time. What is missing or no number reads as NaN, 0 or ZYX;
+// an Option of each would be no plainer, since every call takes every number.
 // What a name stands for is a match and no table, since each call takes and gives types of its own.
 use euler::EulerRot;
 use matrix::DMat3;

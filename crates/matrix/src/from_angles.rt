@@ -50,6 +50,7 @@ fn from_sines(order: Order, first: (f64, f64), middle: (f64, f64), last: (f64, f
     DMat3::from_cols_array_2d(m)
 }
 
+// As the quaternion has such a text of its own: the original has one for each, behind `FromEuler`.
 // With Ex the angles are read backwards; all are taken at the opposite where the parity is even.
 #[tactic(auto, using(euler::proofs::Angles::each_read), unfolding(crate::specs::Angles::by_order))]
 fn by_order(order: Order, x: f64, y: f64, z: f64) -> DMat3

@@ -90,6 +90,7 @@ impl FromStr for Replay {
             Function::Sqrt => (Ok(sqrt(a)), b, 0.0),
             Function::Acos => (acos_approx(a), b, BOUND),
         };
+        // What is refused lies outside every bound, as what is no number does; a Result to be compared would be no plainer.
         Ok(Replay {
             function,
             error: distance(answer.unwrap_or(f64::NAN), expected),

@@ -40,6 +40,7 @@ fn from_halves(order: Order, first: (f64, f64), middle: (f64, f64), last: (f64, 
     DQuat::from_array(a)
 }
 
+// As the matrix has such a text of its own: the original has one for each, behind `FromEuler`.
 // With Ex the angles are read backwards; the middle one is taken at the opposite where the parity is even.
 #[tactic(auto, using(euler::proofs::Angles::each_read), unfolding(drift::specs::Turns::by_order))]
 fn by_order(order: Order, x: f64, y: f64, z: f64) -> DQuat

@@ -1,4 +1,5 @@
-// Ways from one rotation to another: the angle between two, and lerp and slerp.
+// Ways from one rotation to another: the angle between two, and lerp and slerp. Both ends and the share stand one by one, as in the
+// original's signatures.
 ghost use Rattle.std.specs.Prelude.{◌≡◌};
 ghost use Rattle.fault.specs.Answers.{answer, tested};
 ghost use Rattle.quaternion.specs.Quaternions.{parts, whole};
@@ -109,9 +110,9 @@ impl DQuat {
     {
         let dot = self.dot(end);
         if dot < 0.0 {
-            self.shorter(-end, -dot, s)
+            self.sweep(-end, -dot, s, -dot)
         } else {
-            self.shorter(end, dot, s)
+            self.sweep(end, dot, s, dot)
         }
     }
 
@@ -128,18 +129,14 @@ impl DQuat {
         ensures { result ≡ slerp_long_answer (parts self) (parts end) s }
     {
         let dot = self.dot(end);
-        if nearer(dot.abs()) {
-            self.lerp_impl(end, s)
-        } else {
-            Ok(self.slerp_impl(end, dot, s))
-        }
+        self.sweep(end, dot, s, dot.abs())
     }
 
-    // Where the two are no more than a quarter turn apart: straight if they are so near that the sine of their angle is lost.
-    fn shorter(self, end: DQuat, dot: f64, s: f64) -> Result<DQuat, RotationFault>
-        ensures { result ≡ way (parts self) (parts end) dot s (nearer dot) }
+    // Straight where `near` is so near to 1 that the sine of the angle between the two is lost.
+    fn sweep(self, end: DQuat, dot: f64, s: f64, near: f64) -> Result<DQuat, RotationFault>
+        ensures { result ≡ way (parts self) (parts end) dot s (nearer near) }
     {
-        if nearer(dot) {
+        if nearer(near) {
             self.lerp_impl(end, s)
         } else {
             Ok(self.slerp_impl(end, dot, s))
