@@ -91,6 +91,12 @@ impl From<DVec4> for Value {
     }
 }
 
+impl From<[f64; 4]> for Value {
+    fn from(a: [f64; 4]) -> Value {
+        Value::Four(DVec4::new(a[0], a[1], a[2], a[3]))
+    }
+}
+
 impl From<DQuat> for Value {
     fn from(q: DQuat) -> Value {
         Value::Four(DVec4::from(q))

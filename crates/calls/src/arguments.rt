@@ -52,6 +52,10 @@ impl<'a> Call<'a> {
         DVec4::new(self.f(), self.f(), self.f(), self.f())
     }
 
+    pub(crate) fn a(&mut self) -> [f64; 4] {
+        [self.f(), self.f(), self.f(), self.f()]
+    }
+
     pub(crate) fn q(&mut self) -> DQuat {
         DQuat::from_vec4(self.v4())
     }

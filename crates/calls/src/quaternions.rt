@@ -2,7 +2,7 @@
 use crate::answers::{Answer, answer, plain};
 use crate::arguments::Call;
 use quaternion::DQuat;
-use vectors::Vector;
+use vectors::{DVec4, Vector};
 
 impl Call<'_> {
     pub(crate) fn on_quaternions(&mut self) -> Option<Answer> {
@@ -14,9 +14,10 @@ impl Call<'_> {
     // What makes a quaternion.
     fn made(&mut self) -> Option<Answer> {
         Some(match self.name {
-            "q.from_xyzw" | "q.from_array" | "q.from_vec4" | "q.to_array" | "q.to_vec4" => plain(
-                self.v4(),
-            ),
+            "q.from_xyzw" => plain(DQuat::from_xyzw(self.f(), self.f(), self.f(), self.f())),
+            "q.from_array" => plain(DQuat::from_array(self.a())),
+            "q.from_vec4" => plain(DQuat::from_vec4(self.v4())),
+            "q.from_slice" => answer(DQuat::from_slice(&self.a())),
             "q.from_axis_angle" => answer(DQuat::from_axis_angle(self.v3(), self.f())),
             "q.from_scaled_axis" => answer(DQuat::from_scaled_axis(self.v3())),
             "q.from_rotation_x" => answer(DQuat::from_rotation_x(self.f())),
@@ -42,6 +43,13 @@ impl Call<'_> {
     // What one quaternion answers, perhaps with something that is none.
     fn of_one(&mut self) -> Option<Answer> {
         Some(match self.name {
+            "q.to_array" => plain(self.q().to_array()),
+            "q.to_vec4" => plain(DVec4::from(self.q())),
+            "q.write_to_slice" => {
+                let q = self.q();
+                let mut four = self.a();
+                answer(q.write_to_slice(&mut four).map(|()| four))
+            }
             "q.to_axis_angle" => answer(self.q().to_axis_angle()),
             "q.to_scaled_axis" => answer(self.q().to_scaled_axis()),
             "q.to_euler" => answer(self.q().to_euler(self.order())),

@@ -17,6 +17,11 @@ impl Call<'_> {
     fn matrix(&mut self) -> Option<Answer> {
         Some(match self.name {
             "m.from_cols" => plain(self.m()),
+            "m.from_cols_array_2d" => plain(DMat3::from_cols_array_2d([
+                self.v3().to_array(),
+                self.v3().to_array(),
+                self.v3().to_array(),
+            ])),
             "m.from_quat" => answer(DMat3::from_quat(self.q())),
             "m.from_euler" => answer(DMat3::from_euler(self.order(), self.f(), self.f(), self.f())),
             "m.to_euler" => answer(self.m().to_euler(self.order())),

@@ -73,6 +73,25 @@ mod tests {
     }
 
     #[test]
+    fn short_slices_are_refused_and_stay(rt: HostRuntime) {
+        let q = DQuat::from_xyzw(1.0, 2.0, 3.0, 4.0);
+        assert_eq!(rt;
+            DQuat::from_slice(&[1.0, 2.0, 3.0]),
+            Err(RotationFault::TooShort(0))
+        );
+        assert_eq!(rt; DQuat::from_slice(&[1.0, 2.0, 3.0, 4.0, 5.0]), Ok(q));
+        let mut three = [7.0, 8.0, 9.0];
+        assert_eq!(rt;
+            q.write_to_slice(&mut three),
+            Err(RotationFault::TooShort(1))
+        );
+        assert_eq!(rt; three, [7.0, 8.0, 9.0], "nothing is written");
+        let mut five = [0.0, 0.0, 0.0, 0.0, 5.0];
+        assert_eq!(rt; q.write_to_slice(&mut five), Ok(()));
+        assert_eq!(rt; five, [1.0, 2.0, 3.0, 4.0, 5.0]);
+    }
+
+    #[test]
     fn products_do_not_commute(rt: HostRuntime) {
         let i = DQuat::from_xyzw(1.0, 0.0, 0.0, 0.0);
         let j = DQuat::from_xyzw(0.0, 1.0, 0.0, 0.0);
