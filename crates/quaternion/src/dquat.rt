@@ -7,7 +7,7 @@ ghost use Rattle.exact.specs.Vector.{vector, rotated};
 ghost use Rattle.rounding.specs.Value.{floats};
 ghost use Rattle.vectors.specs.Vectors as V;
 ghost use Rattle.drift.specs.Tests.{unit_fault4, finite_fault4, length_fault4, turn_fault, image_fault, euler_fault};
-ghost use Rattle.numeric.specs.Floats.{zero, minus_one, two};
+ghost use Rattle.numeric.specs.Floats.{zero, one, minus_one, two};
 ghost use Rattle.quaternion.specs.Quaternions.{quat, parts, whole, listed, four_fault, Wrote, near_identity, about_x, about_y, about_z};
 ghost use Rattle.quaternion.specs.Euler.{from_euler};
 ghost use Rattle.exact.specs.Turn as Turn;
@@ -20,7 +20,7 @@ ghost use Rattle.quaternion.specs.EulerLaws.{IsEulerTurn};
 use euler::{Axis, EulerRot, FromEuler};
 use fault::RotationFault;
 use numeric::{check_angle, sin_cos_raw};
-use std::ops::{Add, Div, Mul, Neg, Sub};
+use std::ops::{Add, AddAssign, Div, DivAssign, Mul, MulAssign, Neg, Sub, SubAssign};
 use vectors::{DVec3, DVec4, Vector};
 
 #[derive(Clone, Copy, PartialEq, Debug)]
@@ -32,6 +32,14 @@ pub struct DQuat {
 }
 
 impl DQuat {
+    // All not a number.
+    pub const NAN: DQuat = DQuat {
+        x: f64::NAN,
+        y: f64::NAN,
+        z: f64::NAN,
+        w: f64::NAN,
+    };
+
     // The identity quaternion. Corresponds to no rotation.
     pub const IDENTITY: DQuat = DQuat {
         x: 0.0,
@@ -338,5 +346,53 @@ impl Neg for DQuat {
 
     fn neg(self) -> DQuat {
         self * -1.0
+    }
+}
+
+impl Default for DQuat {
+    ghost is_default = { λ q. q ≡ quat zero zero zero one };
+
+    fn default() -> DQuat {
+        DQuat::IDENTITY
+    }
+}
+
+impl AddAssign for DQuat {
+    ghost add_assign_gives = { λ p q r. parts r ≡ plus floats (parts p) (parts q) };
+
+    fn add_assign(&mut self, rhs: DQuat) {
+        *self = *self + rhs;
+    }
+}
+
+impl SubAssign for DQuat {
+    ghost sub_assign_gives = { λ p q r. parts r ≡ minus floats (parts p) (parts q) };
+
+    fn sub_assign(&mut self, rhs: DQuat) {
+        *self = *self - rhs;
+    }
+}
+
+impl MulAssign for DQuat {
+    ghost mul_assign_gives = { λ p q r. parts r ≡ product floats (parts p) (parts q) };
+
+    fn mul_assign(&mut self, rhs: DQuat) {
+        *self = self.mul_quat(rhs);
+    }
+}
+
+impl MulAssign<f64> for DQuat {
+    ghost mul_assign_gives = { λ q s r. parts r ≡ scale floats (parts q) s };
+
+    fn mul_assign(&mut self, rhs: f64) {
+        *self = *self * rhs;
+    }
+}
+
+impl DivAssign<f64> for DQuat {
+    ghost div_assign_gives = { λ q s r. parts r ≡ V.over4 (parts q) s };
+
+    fn div_assign(&mut self, rhs: f64) {
+        *self = *self / rhs;
     }
 }
