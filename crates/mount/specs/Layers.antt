@@ -1,5 +1,5 @@
 -- Layers over a mount: what they make of its true orientation, its depth and its answer.
-use Rattle.std.specs.Prelude.{◌≡◌, ℕ, ◌+◌, Bool, true, cond, Some, None, Ok, Err, Option, Result, nat_le, Float}
+use Rattle.std.specs.Prelude.{◌≡◌, ℕ, ◌+◌, Bool, cond, Some, None, Ok, Err, Option, Result, nat_le, Float}
 use Rattle.fault.specs.Answers.{unless, within, ◌⨾◌}
 use Rattle.fault.specs.declared.RotationFault.{RotationFault}
 use Rattle.fault.specs.declared.RigFault.{RigFault}
@@ -29,11 +29,6 @@ over more d f (Some s) below = cond (room more d) (f s below) below
 
 abbrev pub deeper : {S : Type 0} → ℕ → Option S → ℕ → ℕ
 deeper more o d = over more d (λ s n. n + more) o d
-
--- there is room for what is set
-abbrev pub has_room : {S : Type 0} → ℕ → Option S → ℕ → Bool
-has_room more None d = true
-has_room more (Some s) d = room more d
 
 -- what turns a setting away: its own refusals, then the depth below
 abbrev pub room_fault : ℕ → ℕ → Option RigFault

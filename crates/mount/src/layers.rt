@@ -1,8 +1,8 @@
 // Layers over any mount. A layer holds the mount below by value and lends it to nobody, so that what stands below it stays as it is.
-ghost use Rattle.std.specs.Prelude.{◌≡◌, true, None};
+ghost use Rattle.std.specs.Prelude.{◌≡◌, None};
 ghost use Rattle.fault.specs.Answers.{answer};
 ghost use Rattle.mount.specs.Facts.{angles_fault, swings_fault};
-ghost use Rattle.mount.specs.Layers.{over, deeper, has_room, room_fault, layer_fault, Over, IsSet, IsPointed, Decided};
+ghost use Rattle.mount.specs.Layers.{over, deeper, room, room_fault, layer_fault, Over, IsSet, IsPointed, Decided};
 ghost use Rattle.mount.specs.Laws.{layer_shallow, layer_unit, layer_stands};
 
 use crate::below::{DEEPEST, Mount};
@@ -13,13 +13,12 @@ use fault::{RigFault, RotationFault, unless};
 use numeric::check_angles;
 use quaternion::DQuat;
 
-// A layer over a mount: set to nothing, and then as the mount below, or set to a turn.
+// A layer over a mount: set to nothing, and then as the mount below, or set to a turn. That there is room for the turn is no ghost
+// field, since a struct of a caller's that holds a layer over a layer, or itself beside one, could then not be checked.
 #[derive(Drop)]
 pub struct Layer<M: Mount, T: Turning> {
     below: M,
     set: Option<T>,
-    // what would pass the deepest depth is never set
-    ghost room: { has_room T.Turning.STEPS set (M.Mount.deep below) ≡ true },
 }
 
 // A bracket: flat, or set to a turn of an order.
@@ -40,11 +39,15 @@ impl<M: Mount, T: Turning> Layer<M, T> {
     fn check_room(&self) -> Result<(), RigFault>
         ensures { result ≡ answer (room_fault T.Turning.STEPS (M.Mount.deep self.now.below)) tt }
     {
-        unless(
-            T::STEPS <= DEEPEST - self.below.depth(),
-            RigFault::TooDeep(0),
-        )
+        unless(has_room::<T>(self.below.depth()), RigFault::TooDeep(0))
     }
+}
+
+// Whether a turn of this kind has room over a mount of this depth.
+fn has_room<T: Turning>(below: u8) -> bool
+    ensures { result ≡ room T.Turning.STEPS below }
+{
+    below.saturating_add(T::STEPS) <= DEEPEST
 }
 
 // Each kind has a call of its own, for it takes and refuses other numbers.
@@ -90,7 +93,13 @@ impl<M: Mount, T: Turning> Mount for Layer<M, T> {
         let below = self.below.orientation();
         match self.set {
             None => below,
-            Some(turn) => turn.over(below),
+            Some(turn) => {
+                if has_room::<T>(self.below.depth()) {
+                    turn.over(below)
+                } else {
+                    below
+                }
+            }
         }
     }
 
@@ -98,7 +107,13 @@ impl<M: Mount, T: Turning> Mount for Layer<M, T> {
         let below = self.below.depth();
         match self.set {
             None => below,
-            Some(_) => below + T::STEPS,
+            Some(_) => {
+                if has_room::<T>(below) {
+                    below + T::STEPS
+                } else {
+                    below
+                }
+            }
         }
     }
 }
