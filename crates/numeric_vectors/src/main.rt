@@ -3,7 +3,6 @@
 #![tactic(auto)]
 
 use numeric::{acos_approx, atan2, cos, sin, sqrt};
-use std::collections::BTreeMap;
 use std::fmt;
 use std::num::f64_from_bits_with_nan;
 use std::str::FromStr;
@@ -11,7 +10,7 @@ use std::str::FromStr;
 // 2^-45: half of what is promised, since the expected value is itself rounded
 const BOUND: f64 = 2.842170943040401e-14;
 
-#[derive(Clone, Copy, PartialEq, Eq, PartialOrd, Ord)]
+#[derive(Clone, Copy)]
 enum Function {
     Sin,
     Cos,
@@ -162,23 +161,21 @@ impl fmt::Display for Tally {
 }
 
 fn main(rt: HostRuntime) -> anyhow::Result<()> {
-    let mut tallies = BTreeMap::new(rt.alloc());
-    for function in Function::ALL {
-        tallies.insert(function, Tally::default())?;
-    }
+    // By function, in the order of `ALL`; an array, since a map would want memory before the first line is read.
+    let mut tallies = [Tally::default(); 5];
     for line in rt.lines(rt.alloc()) {
         let line = line?;
         let Ok(replay) = line.parse::<Replay>() else {
             println!(rt; "no function: {line}")?;
             continue;
         };
-        tallies.entry(replay.function)?.or_default().note(replay);
+        tallies[replay.function as usize].note(replay);
         if !replay.is_within() {
             println!(rt; "outside: {line}")?;
         }
     }
-    for (function, tally) in &tallies {
-        println!(rt; "{function}: {tally}")?;
+    for function in Function::ALL {
+        println!(rt; "{function}: {}", tallies[function as usize])?;
     }
     Ok(())
 }
