@@ -47,18 +47,23 @@ module _ {k t : Quat Float} (h : Sound k) (g : Kept t) where
   unfolding computes
   turned_unit = unit_within (normal_are made.0 lo hi) (normal_unit made.0 lo hi)
 
-  -- k is at most c long, and e from Π; t is f from τ, which is at most a long; the product's squared length is n from 1, and so its length d
-  pub turned_by : {c d n : ℚ} → K upto c → 0# ≤ d → d ≤ 1# → square ops (values m) ≈⟨ n ⟩ 1# → (1# - d) * (1# - d) + n ≤ 1# → 1# + n ≤ (1# + d) * (1# + d)
+  -- k is at most c long, and e from Π; t is f from τ, which is at most a long; the product's length is d from 1
+  pub turned_by : {c d : ℚ} → K upto c → 0# ≤ d → d ≤ 1# → (1# - d) * (1# - d) ≤ square ops (values m) → square ops (values m) ≤ (1# + d) * (1# + d)
       → {Π τ : Quat ℚ} {e f a : ℚ} → K ~⟨ e ⟩ Π → T ~⟨ f ⟩ τ → τ upto a → values (turned k t) ~⟨ d + 2⁻ 48 + (2⁻ 48 + (c * f + e * a)) ⟩ product ops Π τ
-  turned_by {d = δ} {n} u d₀ d₁ s l h d e b =
+  turned_by u d₀ d₁ l m d e b = ~_trans (normal_moved made.0 lo hi d₀ d₁ l m) (~_trans made.1 (~_trans (~_left e u) (~_right d b)))
+
+  -- the same where the product's squared length is n from 1, and so its length d
+  pub turned_within : {c d n : ℚ} → K upto c → 0# ≤ d → d ≤ 1# → square ops (values m) ≈⟨ n ⟩ 1# → (1# - d) * (1# - d) + n ≤ 1# → 1# + n ≤ (1# + d) * (1# + d)
+      → {Π τ : Quat ℚ} {e f a : ℚ} → K ~⟨ e ⟩ Π → T ~⟨ f ⟩ τ → τ upto a → values (turned k t) ~⟨ d + 2⁻ 48 + (2⁻ 48 + (c * f + e * a)) ⟩ product ops Π τ
+  turned_within {d = δ} {n} u d₀ d₁ s l h d e b =
       let least = le (square ops (values m) ▸ δ ▸ n ▸ ∅) (λ s d n. (1ₑ ⊝ d) ⊗ (1ₑ ⊝ d) ⊕ n ≼ 1ₑ ⇒ λ l. 1ₑ ≼ s ⊕ n ⇒ λ h. (1ₑ ⊝ d) ⊗ (1ₑ ⊝ d) ≼ s by l ⊞ h) tt l s.down in
-      ~_trans (normal_moved made.0 lo hi d₀ d₁ least (≤_trans s.up h)) (~_trans made.1 (~_trans (~_left e u) (~_right d b)))
+      turned_by u d₀ d₁ least (≤_trans s.up h) d e b
 
   -- with what is sound
   pub turned_near : {Π τ : Quat ℚ} {e f a : ℚ} → K ~⟨ e ⟩ Π → T ~⟨ f ⟩ τ → τ upto a → values (turned k t) ~⟨ e * a + f * cls (1ᶠ +ᶠ part 38) + cls (part 39 +ᶠ part 41 +ᶠ part 45) ⟩ product ops Π τ
   unfolding computes
   turned_near {Π} {τ} {e} {f} {a} d l b =
-      ~_≤ (turned_by {d = cls δ} (sound_upto h) (closed tt) (closed tt) length (closed tt) (closed tt) d l b)
+      ~_≤ (turned_within {d = cls δ} (sound_upto h) (closed tt) (closed tt) length (closed tt) (closed tt) d l b)
       (le (e ▸ f ▸ a ▸ ∅) (λ e f a. con δ ⊕ con (part 48) ⊕ (con (part 48) ⊕ (con (1ᶠ +ᶠ part 38) ⊗ f ⊕ e ⊗ a)) ≼ e ⊗ a ⊕ f ⊗ con (1ᶠ +ᶠ part 38) ⊕ con (part 39 +ᶠ part 41 +ᶠ part 45) by number (whole (pos 0))) tt)
 
   pub turned_kept : Kept (turned k t)

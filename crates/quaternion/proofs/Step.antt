@@ -11,7 +11,7 @@ use Rattle.exact.proofs.Quats.{ops, ◌upto◌, ◌~⟨◌⟩◌, ~_≤}
 use Rattle.rounding.specs.Value.{floats}
 use Rattle.drift.specs.Laws.{Kept, turned}
 use Rattle.drift.proofs.Floats.{values, length_of, kept_sound, kept_upto, product_length, product_square}
-use Rattle.drift.proofs.Step.{turned_by}
+use Rattle.drift.proofs.Step.{turned_within}
 
 module _ {k t : Quat Float} (h : Kept k) (g : Kept t) where
   abbrev m : Quat Float
@@ -30,7 +30,7 @@ module _ {k t : Quat Float} (h : Kept k) (g : Kept t) where
   pub kept_near : {Π τ : Quat ℚ} {e f a : ℚ} → values k ~⟨ e ⟩ Π → values t ~⟨ f ⟩ τ → τ upto a → values (turned k t) ~⟨ e * a + f * cls (1ᶠ +ᶠ part 40) + cls (part 40 +ᶠ part 45) ⟩ product ops Π τ
   unfolding computes
   kept_near {Π} {τ} {e} {f} {a} d l b =
-      ~_≤ (turned_by (kept_sound h) g {d = cls δ} (kept_upto h) (closed tt) (closed tt) length (closed tt) (closed tt) d l b)
+      ~_≤ (turned_within (kept_sound h) g {d = cls δ} (kept_upto h) (closed tt) (closed tt) length (closed tt) (closed tt) d l b)
       (le (e ▸ f ▸ a ▸ ∅) (λ e f a. con δ ⊕ con (part 48) ⊕ (con (part 48) ⊕ (con (1ᶠ +ᶠ part 40) ⊗ f ⊕ e ⊗ a)) ≼ e ⊗ a ⊕ f ⊗ con (1ᶠ +ᶠ part 40) ⊕ con (part 40 +ᶠ part 45) by number (whole (pos 0))) tt)
 
 -- one turn takes 2⁻³⁷ more
