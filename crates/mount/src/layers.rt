@@ -1,7 +1,7 @@
 // Layers over any mount. A layer holds the mount below by value and lends it to nobody, so that what stands below it stays as it is.
-ghost use Rattle.std.specs.Prelude.{◌≡◌, None};
+ghost use Rattle.std.specs.Prelude.{◌≡◌, ◌≤◌, None};
 ghost use Rattle.fault.specs.Answers.{answer};
-ghost use Rattle.mount.specs.Facts.{angles_fault, swings_fault};
+ghost use Rattle.mount.specs.Facts.{deepest, angles_fault, swings_fault};
 ghost use Rattle.mount.specs.Layers.{over, deeper, room, room_fault, layer_fault, Over, IsSet, IsPointed, Decided};
 ghost use Rattle.mount.specs.Laws.{layer_shallow, layer_unit, layer_stands};
 
@@ -45,9 +45,10 @@ impl<M: Mount, T: Turning> Layer<M, T> {
 
 // Whether a turn of this kind has room over a mount of this depth.
 fn has_room<T: Turning>(below: u8) -> bool
+    requires { below ≤ deepest }
     ensures { result ≡ room T.Turning.STEPS below }
 {
-    below.saturating_add(T::STEPS) <= DEEPEST
+    T::STEPS <= DEEPEST - below
 }
 
 // Each kind has a call of its own, for it takes and refuses other numbers.
